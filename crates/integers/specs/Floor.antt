@@ -1,0 +1,13 @@
+-- Division of a signed number by a natural number that rounds down, so that the remainder is never negative.
+use Prim.Native.Nat.{ℕ, suc, _-_, _/_, _%_}
+use lib.IntN.{ℤ, pos, negsuc}
+
+-- the greatest whole number that is at most z / m
+abbrev pub floorDiv : ℤ → ℕ → ℤ
+floorDiv (pos n) m = pos (n / m)
+floorDiv (negsuc n) m = negsuc (n / m)
+
+-- what z is above m times that: from 0 to m - 1
+abbrev pub floorMod : ℤ → ℕ → ℕ
+floorMod (pos n) m = n % m
+floorMod (negsuc n) m = m - suc (n % m)

@@ -1,0 +1,18 @@
+-- What a loop over a list has done after i turns.
+use mathlib.Core.Path.{_≡_, sym, _∙_, ap, ap₂}
+use mathlib.Core.List.{List, [], _∷_, _++_, map, map-append}
+use Prim.Native.Nat.{ℕ, zero, suc, _+_, _<_, _≤_}
+use native.Mathlib.Numerals.{add-one}
+use native.Mathlib.Omega.{arith}
+use lib.ListN.{length, getD, take, set}
+use lib.Seq.{take-suc, take-suc-set, take-all}
+
+-- a loop that fills r by f of each entry of a: after i turns the first i are right
+module _ {A B : Type 0} (f : A → B) where
+  pub fill-step : (a : List A) (r : List B) (i : ℕ) (d : A) → i < length a → i < length r → take i r ≡ map f (take i a)
+      → take (i + 1) (set r i (f (getD a i d))) ≡ map f (take (i + 1) a)
+  fill-step a r i d h k e = rw (add-one i) (take-suc-set r i (f (getD a i d)) k ∙ ap (λ (l : List B). l ++ (f (getD a i d) ∷ [])) e ∙ sym (ap (map f) (take-suc a i d h) ∙ map-append f (take i a) (getD a i d ∷ [])))
+
+  pub fill-done : (a : List A) (r : List B) (n : ℕ) → length a ≤ n → length r ≤ n → take n r ≡ map f (take n a) → r ≡ map f a
+  fill-done a r n h k e = sym (take-all n r k) ∙ e ∙ ap (map f) (take-all n a h)
+

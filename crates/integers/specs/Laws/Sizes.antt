@@ -1,0 +1,82 @@
+-- Sizes of integers, and what fits an i64. A bound is stated as `natAbs x ≤ B`, which omega reads.
+use mathlib.Core.Path.{_≡_, refl, sym, _∙_, ap, ap₂, subst}
+use mathlib.Core.Logic.{_⊎_, inl, inr, ⊎-elim, _↔_}
+use Prim.Native.Nat.{ℕ, zero, suc, _+_, _*_, _-_, _^_, _/_, _<_, _≤_}
+use native.Mathlib.Nat.{mul-le-mul, div-le-self, le-trans}
+use native.Mathlib.Omega.{arith}
+use lib.IntN.{ℤ, pos, negsuc, negℤ, natAbs, _+ℤ_, _-ℤ_, _*ℤ_}
+use mathlib.Core.Bool.{Bool, true, false}
+use lib.Dec.{T}
+use lib.Signed.{_≤ℤ_, _<ℤ_, quotZ, remZ, mag, mag-rem, leZ, ltZ}
+use Rattle.integers.specs.Laws.Signed.{≤ℤ-or-<ℤ}
+use mir.Syntax.{w64}
+use mir.Val.{SFits, ofZ}
+use Rattle.integers.specs.Laws.Difference.{D, byD, byD₂, byD₃, byD₄, ints, abs-D}
+
+pub abs-neg : (x : ℤ) → natAbs (negℤ x) ≡ natAbs x
+abs-neg (pos zero) = refl
+abs-neg (pos (suc n)) = refl
+abs-neg (negsuc n) = refl
+
+pub abs-add : (x y : ℤ) → natAbs (x +ℤ y) ≤ natAbs x + natAbs y
+abs-add = byD₂ _ λ _ _ _ _. simp (ints, abs-D) (omega arith)
+
+pub abs-sub : (x y : ℤ) → natAbs (x -ℤ y) ≤ natAbs x + natAbs y
+abs-sub = byD₂ _ λ _ _ _ _. simp (ints, abs-D) (omega arith)
+
+pub abs-mul : (x y : ℤ) → natAbs (x *ℤ y) ≡ natAbs x * natAbs y
+abs-mul (pos a) (pos b) = refl
+abs-mul (pos a) (negsuc b) = abs-neg (pos (a * suc b))
+abs-mul (negsuc a) (pos b) = abs-neg (pos (suc a * b))
+abs-mul (negsuc a) (negsuc b) = refl
+
+pub abs-mul-le : (x y : ℤ) {m n : ℕ} → natAbs x ≤ m → natAbs y ≤ n → natAbs (x *ℤ y) ≤ m * n
+abs-mul-le x y h k = rw (abs-mul x y) (mul-le-mul h k)
+
+pub abs-quot : (x y : ℤ) → natAbs (quotZ x y) ≤ natAbs x
+abs-quot (pos a) (pos b) = div-le-self a b
+abs-quot (pos a) (negsuc b) = rw (abs-neg (pos (a / suc b))) (div-le-self a (suc b))
+abs-quot (negsuc a) (pos b) = rw (abs-neg (pos (suc a / b))) (div-le-self (suc a) b)
+abs-quot (negsuc a) (negsuc b) = div-le-self (suc a) (suc b)
+
+pub fits-abs : (z : ℤ) → natAbs z < 2 ^ 63 → SFits w64 z
+fits-abs (pos n) h = record { sfits = h }
+fits-abs (negsuc n) h = record { sfits = omega arith }
+
+pub abs-fits : (z : ℤ) → SFits w64 z → natAbs z ≤ 2 ^ 63
+abs-fits (pos n) h = omega (arith, h .sfits)
+abs-fits (negsuc n) h = omega (arith, h .sfits)
+
+pub fits-add : (x y : ℤ) → natAbs x + natAbs y < 2 ^ 63 → SFits w64 (x +ℤ y)
+fits-add x y h = fits-abs _ (omega (arith, abs-add x y))
+
+pub fits-sub : (x y : ℤ) → natAbs x + natAbs y < 2 ^ 63 → SFits w64 (x -ℤ y)
+fits-sub x y h = fits-abs _ (omega (arith, abs-sub x y))
+
+pub fits-mul : (x y : ℤ) (m n : ℕ) → natAbs x ≤ m → natAbs y ≤ n → m * n < 2 ^ 63 → SFits w64 (x *ℤ y)
+fits-mul x y m n hx hy h = fits-abs _ (omega (arith, abs-mul-le x y hx hy))
+
+pub fits-quot : (x y : ℤ) → natAbs x < 2 ^ 63 → SFits w64 (quotZ x y)
+fits-quot x y h = fits-abs _ (omega (arith, abs-quot x y))
+
+-- a positive integer has positive bits: what a division asks of its divisor
+pub bits-pos : (m : ℤ) → pos 1 ≤ℤ m → 0 < ofZ w64 m
+bits-pos (pos zero) h = absurd (h .le)
+bits-pos (pos (suc n)) h = omega arith
+bits-pos (negsuc n) h = absurd (h .le)
+
+-- a signed test that the code made
+pub leZ-true : (a b : ℤ) → leZ a b ≡ true → a ≤ℤ b
+leZ-true a b e = record { le = subst T (sym e) tt }
+
+pub leZ-false : (a b : ℤ) → leZ a b ≡ false → b <ℤ a
+leZ-false a b e = ⊎-elim (λ h. absurd (subst T e (h .le))) (λ h. h) (≤ℤ-or-<ℤ a b)
+
+pub ltZ-true : (a b : ℤ) → ltZ a b ≡ true → a <ℤ b
+ltZ-true a b e = record { lt = subst T (sym e) tt }
+
+pub ltZ-false : (a b : ℤ) → ltZ a b ≡ false → b ≤ℤ a
+ltZ-false a b e = ⊎-elim (λ h. h) (λ h. absurd (subst T e (h .lt))) (≤ℤ-or-<ℤ b a)
+
+pub fits-rem : (x m : ℤ) → SFits w64 x → SFits w64 (remZ x m)
+fits-rem x m h = record { sfits = omega (arith, mag-rem x m, h .sfits) }

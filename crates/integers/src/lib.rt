@@ -1,0 +1,22 @@
+// Signed arithmetic that the machine does not have: division by a positive number that rounds down.
+ghost use mathlib.Core.Path.{_≡_};
+ghost use lib.IntN.{pos, natAbs};
+ghost use lib.Signed.{_≤ℤ_};
+ghost use Rattle.integers.specs.Floor.{floorDiv, floorMod};
+
+// The greatest whole number that is at most x / m.
+pub fn floor_div(x: i64, m: i64) -> i64
+    requires { ⌜ pos 1 ≤ℤ m ⌝ }
+    ensures { λ r. ⌜ r ≡ floorDiv x (natAbs m) ⌝ }
+{
+    if x >= 0 { x / m } else { (x + 1) / m - 1 }
+}
+
+// What x is above m times that quotient, from 0 to m - 1.
+pub fn floor_mod(x: i64, m: i64) -> i64
+    requires { ⌜ pos 1 ≤ℤ m ⌝ }
+    ensures { λ r. ⌜ r ≡ pos (floorMod x (natAbs m)) ⌝ }
+{
+    let r = x % m;
+    if r < 0 { r + m } else { r }
+}
