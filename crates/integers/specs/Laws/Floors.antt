@@ -1,7 +1,6 @@
 -- Floor quotient and remainder: what they leave, that they are the only ones, how they move, how code computes them.
-use mathlib.Core.Path.{_≡_, refl, sym, _∙_, ap, subst}
-use mathlib.Core.Logic.{_⊎_, inl, inr, ⊎-elim, _↔_}
-use Prim.Native.Nat.{ℕ, zero, suc, _+_, _*_, _-_, _/_, _%_, _^_, _<_, _≤_}
+use mathlib.Core.Path.{_≡_, refl, sym, _∙_, ap}
+use Prim.Native.Nat.{ℕ, zero, suc, _/_, _^_, _<_, _≤_}
 use native.Mathlib.Nat.{div-add-mod, mod-lt, zero-div, not-suc-le-zero, div-le-self}
 use native.Mathlib.Omega.{arith}
 use lib.IntN.{ℤ, pos, negsuc, negℤ, natAbs, _+ℤ_, _-ℤ_, _*ℤ_}
@@ -10,7 +9,7 @@ use lib.Dec.{ltb→lt}
 use mir.Syntax.{w64}
 use mir.Val.{SFits}
 use Rattle.integers.specs.Floor.{floorDiv, floorMod}
-use Rattle.integers.specs.Laws.Difference.{D, byD, byD₂, byD₃, byD₄, ints, abs-D}
+use Rattle.integers.specs.Laws.Difference.{D, abs-D, byD, ints, byD₂}
 use Rattle.integers.specs.Laws.Signed.{slack<, trichotomy}
 
 pub floorMod-lt : (z : ℤ) (m : ℕ) → 0 < m → floorMod z m < m

@@ -7,9 +7,9 @@ use native.Mathlib.Omega.{arith}
 use lib.IntN.{ℤ, _+ℤ_}
 use lib.ListN.{length}
 use lib.Signed.{_<ℤ_, <ℤ-irrefl}
+use Rattle.integers.specs.Laws.Difference.{ints, byD₃}
+use Rattle.integers.specs.Laws.Signed.{<ℤ-trans, trichotomy}
 use Rattle.integers.specs.Vectors.{addV, _≤V_}
-use Rattle.integers.specs.Laws.Difference.{byD₃, ints}
-use Rattle.integers.specs.Laws.Signed.{trichotomy, <ℤ-trans}
 
 pub ≤V-refl : (a : List ℤ) → a ≤V a
 ≤V-refl [] = tt

@@ -1,64 +1,63 @@
--- omega over ℤ where the facts lie in the context: P and N of an integer are read as naturals
-use mathlib.Core.Path.{_≡_, refl, sym, _∙_, ap, ap₂, subst, subst₂}
-use mathlib.Core.Logic.{_↔_}
-use Prim.Native.Nat.{ℕ, zero, suc, _+_, _*_, _-_, _^_, _<_, _≤_}
+-- omega over ℤ where the facts lie in the context: a number is its positive part less its negative part, both naturals.
+use mathlib.Core.Path.{_≡_, sym, _∙_, ap, ap₂, subst₂}
+use Prim.Native.Nat.{ℕ, suc, _+_, _*_, _-_, _^_, _<_, _≤_}
 use native.Mathlib.Omega.{arith}
-use lib.IntN.{ℤ, pos, negsuc, negℤ, natAbs, _+ℤ_, _-ℤ_, _*ℤ_}
+use lib.IntN.{ℤ, pos, negsuc, negℤ, natAbs, _+ℤ_, _*ℤ_}
 use mir.Syntax.{w64}
 use mir.Val.{SFits}
 use lib.Signed.{_≤ℤ_, _<ℤ_}
-use Rattle.integers.specs.Laws.Difference.{D, pos-D, negsuc-D, add-D, mul-D, neg-D, le-D, lt-D, eq-D, abs-D}
+use Rattle.integers.specs.Laws.Difference.{D, pos-D, negsuc-D, neg-D, add-D, mul-D, eq-D, le-D, lt-D}
 
-abbrev pub P : ℤ → ℕ
-P (pos n) = n
-P (negsuc n) = 0
+abbrev pub posPart : ℤ → ℕ
+posPart (pos n) = n
+posPart (negsuc n) = 0
 
-abbrev pub N : ℤ → ℕ
-N (pos n) = 0
-N (negsuc n) = suc n
+abbrev pub negPart : ℤ → ℕ
+negPart (pos n) = 0
+negPart (negsuc n) = suc n
 
-is : (z : ℤ) → z ≡ D (P z) (N z)
+is : (z : ℤ) → z ≡ D (posPart z) (negPart z)
 is (pos n) = pos-D n
 is (negsuc n) = negsuc-D n
 
-pub le→ : {a b : ℤ} → a ≤ℤ b → P a + N b ≤ P b + N a
-le→ {a} {b} h = le-D (P a) (N a) (P b) (N b) .0 (subst₂ _≤ℤ_ (is a) (is b) h)
+pub le→ : {a b : ℤ} → a ≤ℤ b → posPart a + negPart b ≤ posPart b + negPart a
+le→ {a} {b} h = le-D (posPart a) (negPart a) (posPart b) (negPart b) .0 (subst₂ _≤ℤ_ (is a) (is b) h)
 
-pub lt→ : {a b : ℤ} → a <ℤ b → P a + N b < P b + N a
-lt→ {a} {b} h = lt-D (P a) (N a) (P b) (N b) .0 (subst₂ _<ℤ_ (is a) (is b) h)
+pub lt→ : {a b : ℤ} → a <ℤ b → posPart a + negPart b < posPart b + negPart a
+lt→ {a} {b} h = lt-D (posPart a) (negPart a) (posPart b) (negPart b) .0 (subst₂ _<ℤ_ (is a) (is b) h)
 
-pub eq→ : {a b : ℤ} → a ≡ b → P a + N b ≡ P b + N a
-eq→ {a} {b} h = eq-D (P a) (N a) (P b) (N b) .0 (sym (is a) ∙ h ∙ is b)
+pub eq→ : {a b : ℤ} → a ≡ b → posPart a + negPart b ≡ posPart b + negPart a
+eq→ {a} {b} h = eq-D (posPart a) (negPart a) (posPart b) (negPart b) .0 (sym (is a) ∙ h ∙ is b)
 
-pub →le : {a b : ℤ} → P a + N b ≤ P b + N a → a ≤ℤ b
-→le {a} {b} h = subst₂ _≤ℤ_ (sym (is a)) (sym (is b)) (le-D (P a) (N a) (P b) (N b) .1 h)
+pub →le : {a b : ℤ} → posPart a + negPart b ≤ posPart b + negPart a → a ≤ℤ b
+→le {a} {b} h = subst₂ _≤ℤ_ (sym (is a)) (sym (is b)) (le-D (posPart a) (negPart a) (posPart b) (negPart b) .1 h)
 
-pub →lt : {a b : ℤ} → P a + N b < P b + N a → a <ℤ b
-→lt {a} {b} h = subst₂ _<ℤ_ (sym (is a)) (sym (is b)) (lt-D (P a) (N a) (P b) (N b) .1 h)
+pub →lt : {a b : ℤ} → posPart a + negPart b < posPart b + negPart a → a <ℤ b
+→lt {a} {b} h = subst₂ _<ℤ_ (sym (is a)) (sym (is b)) (lt-D (posPart a) (negPart a) (posPart b) (negPart b) .1 h)
 
-pub →eq : {a b : ℤ} → P a + N b ≡ P b + N a → a ≡ b
-→eq {a} {b} h = is a ∙ eq-D (P a) (N a) (P b) (N b) .1 h ∙ sym (is b)
+pub →eq : {a b : ℤ} → posPart a + negPart b ≡ posPart b + negPart a → a ≡ b
+→eq {a} {b} h = is a ∙ eq-D (posPart a) (negPart a) (posPart b) (negPart b) .1 h ∙ sym (is b)
 
 -- what a compound term is, to be listed for each
-pub sum : (a b : ℤ) → P (a +ℤ b) + (N a + N b) ≡ (P a + P b) + N (a +ℤ b)
-sum a b = eq-D (P (a +ℤ b)) (N (a +ℤ b)) (P a + P b) (N a + N b) .0 (sym (is (a +ℤ b)) ∙ ap₂ _+ℤ_ (is a) (is b) ∙ add-D (P a) (N a) (P b) (N b))
+pub sum-parts : (a b : ℤ) → posPart (a +ℤ b) + (negPart a + negPart b) ≡ (posPart a + posPart b) + negPart (a +ℤ b)
+sum-parts a b = eq-D (posPart (a +ℤ b)) (negPart (a +ℤ b)) (posPart a + posPart b) (negPart a + negPart b) .0 (sym (is (a +ℤ b)) ∙ ap₂ _+ℤ_ (is a) (is b) ∙ add-D (posPart a) (negPart a) (posPart b) (negPart b))
 
-pub minus : (a : ℤ) → P (negℤ a) + P a ≡ N a + N (negℤ a)
-minus a = eq-D (P (negℤ a)) (N (negℤ a)) (N a) (P a) .0 (sym (is (negℤ a)) ∙ ap negℤ (is a) ∙ neg-D (P a) (N a))
+pub minus-parts : (a : ℤ) → posPart (negℤ a) + posPart a ≡ negPart a + negPart (negℤ a)
+minus-parts a = eq-D (posPart (negℤ a)) (negPart (negℤ a)) (negPart a) (posPart a) .0 (sym (is (negℤ a)) ∙ ap negℤ (is a) ∙ neg-D (posPart a) (negPart a))
 
-pub prod : (a b : ℤ) → P (a *ℤ b) + (P a * N b + N a * P b) ≡ (P a * P b + N a * N b) + N (a *ℤ b)
-prod a b = eq-D (P (a *ℤ b)) (N (a *ℤ b)) (P a * P b + N a * N b) (P a * N b + N a * P b) .0 (sym (is (a *ℤ b)) ∙ ap₂ _*ℤ_ (is a) (is b) ∙ mul-D (P a) (N a) (P b) (N b))
+pub prod-parts : (a b : ℤ) → posPart (a *ℤ b) + (posPart a * negPart b + negPart a * posPart b) ≡ (posPart a * posPart b + negPart a * negPart b) + negPart (a *ℤ b)
+prod-parts a b = eq-D (posPart (a *ℤ b)) (negPart (a *ℤ b)) (posPart a * posPart b + negPart a * negPart b) (posPart a * negPart b + negPart a * posPart b) .0 (sym (is (a *ℤ b)) ∙ ap₂ _*ℤ_ (is a) (is b) ∙ mul-D (posPart a) (negPart a) (posPart b) (negPart b))
 
-pub fits→ : {z : ℤ} → SFits w64 z → P z + N z ≤ 2 ^ 63
+pub fits→ : {z : ℤ} → SFits w64 z → posPart z + negPart z ≤ 2 ^ 63
 fits→ {z = pos n} h = omega (arith, h .sfits)
 fits→ {z = negsuc n} h = omega (arith, h .sfits)
 
-pub →fits : {z : ℤ} → (P z - N z) + (N z - P z) < 2 ^ 63 → SFits w64 z
+pub →fits : {z : ℤ} → (posPart z - negPart z) + (negPart z - posPart z) < 2 ^ 63 → SFits w64 z
 →fits {z = pos n} h = record { sfits = omega arith }
 →fits {z = negsuc n} h = record { sfits = omega arith }
 
-pub abs : (a : ℤ) → natAbs a ≡ (P a - N a) + (N a - P a)
-abs (pos n) = omega arith
-abs (negsuc n) = omega arith
+pub abs-parts : (a : ℤ) → natAbs a ≡ (posPart a - negPart a) + (negPart a - posPart a)
+abs-parts (pos n) = omega arith
+abs-parts (negsuc n) = omega arith
 
 pub ruleset Z = (le→, lt→, eq→, →le, →lt, →eq, fits→, →fits)

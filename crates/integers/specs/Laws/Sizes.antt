@@ -1,17 +1,17 @@
 -- Sizes of integers, and what fits an i64. A bound is stated as `natAbs x ≤ B`, which omega reads.
-use mathlib.Core.Path.{_≡_, refl, sym, _∙_, ap, ap₂, subst}
-use mathlib.Core.Logic.{_⊎_, inl, inr, ⊎-elim, _↔_}
-use Prim.Native.Nat.{ℕ, zero, suc, _+_, _*_, _-_, _^_, _/_, _<_, _≤_}
-use native.Mathlib.Nat.{mul-le-mul, div-le-self, le-trans}
+use mathlib.Core.Path.{_≡_, refl, sym, subst}
+use mathlib.Core.Logic.{⊎-elim}
+use Prim.Native.Nat.{ℕ, zero, suc, _+_, _*_, _^_, _/_, _<_, _≤_}
+use native.Mathlib.Nat.{mul-le-mul, div-le-self}
 use native.Mathlib.Omega.{arith}
 use lib.IntN.{ℤ, pos, negsuc, negℤ, natAbs, _+ℤ_, _-ℤ_, _*ℤ_}
-use mathlib.Core.Bool.{Bool, true, false}
+use mathlib.Core.Bool.{true, false}
 use lib.Dec.{T}
-use lib.Signed.{_≤ℤ_, _<ℤ_, quotZ, remZ, mag, mag-rem, leZ, ltZ}
-use Rattle.integers.specs.Laws.Signed.{≤ℤ-or-<ℤ}
+use lib.Signed.{_≤ℤ_, _<ℤ_, quotZ, remZ, mag-rem, leZ, ltZ}
 use mir.Syntax.{w64}
 use mir.Val.{SFits, ofZ}
-use Rattle.integers.specs.Laws.Difference.{D, byD, byD₂, byD₃, byD₄, ints, abs-D}
+use Rattle.integers.specs.Laws.Difference.{abs-D, ints, byD₂}
+use Rattle.integers.specs.Laws.Signed.{≤ℤ-or-<ℤ}
 
 pub abs-neg : (x : ℤ) → natAbs (negℤ x) ≡ natAbs x
 abs-neg (pos zero) = refl

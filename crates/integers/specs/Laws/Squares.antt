@@ -1,13 +1,13 @@
 -- Of all numbers of one parity, the one that leaves more than -s and at most s of d has the least square; only the next one up can tie.
-use mathlib.Core.Path.{_≡_, refl, sym, _∙_, ap, subst}
-use mathlib.Core.Logic.{_⊎_, inl, inr, ⊎-elim, _↔_}
-use Prim.Native.Nat.{ℕ, zero, suc, _+_, _*_, _-_, _<_, _≤_}
+use mathlib.Core.Path.{_≡_, refl, ap}
+use mathlib.Core.Logic.{_⊎_, inl, inr}
+use Prim.Native.Nat.{ℕ, zero, suc}
 use native.Mathlib.Omega.{arith}
-use lib.IntN.{ℤ, pos, negsuc, negℤ, natAbs, _+ℤ_, _-ℤ_, _*ℤ_}
+use lib.IntN.{ℤ, pos, negsuc, negℤ, _+ℤ_, _-ℤ_, _*ℤ_}
 use lib.Signed.{_≤ℤ_, _<ℤ_, clashℤ}
+use Rattle.integers.specs.Laws.Difference.{ints, byD₂, byD₄}
+use Rattle.integers.specs.Laws.Signed.{<ℤ-weak, ≡→≤ℤ, slack<, slack>}
 use Rattle.integers.specs.Vectors.{square}
-use Rattle.integers.specs.Laws.Difference.{D, byD, byD₂, byD₃, byD₄, ints, le-D, lt-D, eq-D}
-use Rattle.integers.specs.Laws.Signed.{slack, slack<, slack>, <ℤ-weak, ≡→≤ℤ}
 
 -- the same of r = d - s e, for a step of 2 k
 up : (s : ℤ) → pos 0 <ℤ s → (r : ℤ) → r ≤ℤ s → (j : ℕ) → square r ≤ℤ square (r -ℤ pos 2 *ℤ s *ℤ pos (suc j))

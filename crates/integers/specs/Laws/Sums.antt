@@ -1,15 +1,15 @@
 -- Laws of vectors: entries, lengths, sums, inner products and their sizes.
 use mathlib.Core.Path.{_≡_, refl, sym, _∙_, ap, ap₂, subst}
 use mathlib.Core.List.{List, [], _∷_, map}
-use Prim.Native.Nat.{ℕ, zero, suc, _+_, _*_, _<_, _≤_, max}
-use native.Mathlib.Nat.{suc-inj, mul-le-mul}
+use Prim.Native.Nat.{ℕ, zero, suc, _*_, _<_, _≤_, max}
+use native.Mathlib.Nat.{mul-le-mul}
 use native.Mathlib.Omega.{arith}
 use lib.IntN.{ℤ, pos, negℤ, natAbs, _+ℤ_, _-ℤ_, _*ℤ_, +ℤ-idl, +ℤ-idr, +ℤ-comm, *ℤ-comm, *ℤ-zero}
 use lib.ListN.{length, getD, take, set, length-map, length-replicate, length-set}
 use lib.Seq.{ext-getD, take-all}
-use Rattle.integers.specs.Vectors.{«at», zeros, addV, negV, scaleV, sumV, dot, Bounded, Sized}
-use Rattle.integers.specs.Laws.Difference.{byD, byD₂, byD₃, byD₄, ints}
+use Rattle.integers.specs.Laws.Difference.{byD, ints, byD₂, byD₃, byD₄}
 use Rattle.integers.specs.Laws.Sizes.{abs-add, abs-mul}
+use Rattle.integers.specs.Vectors.{«at», zeros, addV, negV, scaleV, sumV, dot, Bounded, Sized}
 
 -- ---- entries and lengths: an equation of vectors is one of entries and one of lengths
 
