@@ -1,0 +1,159 @@
+-- The numbers that the code computes for one coordinate: the reciprocal, its guess, the rounding, what is left.
+use mathlib.Core.Path.{_≡_, refl, _∙_, ap}
+use mathlib.Core.Bool.{Bool, true, false, cond}
+use Prim.Native.Nat.{ℕ, zero, suc, _+_, _*_, _/_, _%_, _^_, _<_, _≤_}
+use native.Mathlib.Nat.{mul-le-mul, le-refl, div-add-mod, mod-lt, not-suc-le-zero}
+use native.Mathlib.Omega.{arith}
+use lib.Dec.{leb→le}
+use lib.IntN.{ℤ, pos, negsuc, negℤ, natAbs, _+ℤ_, _-ℤ_, _*ℤ_}
+use lib.Signed.{_≤ℤ_, _<ℤ_, leZ, quotZ, shrZ}
+use Rattle.integers.specs.Floor.{floorDiv, floorMod}
+use Rattle.integers.specs.Laws.Difference.{D, abs-D, byD, ints, byD₂, byD₃}
+use Rattle.integers.specs.Laws.Floors.{floorMod-lt, floor-split, floorDiv-shr, byPos}
+use Rattle.integers.specs.Laws.Signed.{slack<, trichotomy}
+use Rattle.integers.specs.Laws.Sizes.{abs-add, abs-sub, abs-mul, leZ-true, leZ-false}
+use Rattle.lattice.specs.Laws.Rounds.{round-rest}
+use Rattle.lattice.specs.Rounding.{round, left, penalty, Divisor, reciprocal}
+
+pub twice : (s : ℤ) → s +ℤ s ≡ pos 2 *ℤ s
+twice = byD _ λ _ _. simp ints (omega arith)
+
+pub twice-pos : (s : ℤ) → pos 1 ≤ℤ s → (pos 1 ≤ℤ (s +ℤ s)) × (pos 0 <ℤ (pos 2 *ℤ s)) × (pos 0 <ℤ s)
+twice-pos = byD _ λ _ _. simp ints (omega arith)
+
+pub reciprocal-quot : (s : ℤ) → pos 1 ≤ℤ s → quotZ (pos 4294967296) (s +ℤ s) ≡ pos (reciprocal s)
+reciprocal-quot = byPos _ λ n. ap (λ (k : ℕ). pos (4294967296 / k)) (omega arith)
+
+-- one integer leaves at most half of S
+apart : (S : ℤ) → pos 0 <ℤ S → (x q c : ℤ) → q <ℤ c → (pos 2 *ℤ (x -ℤ S *ℤ q)) ≤ℤ S → negℤ S <ℤ (pos 2 *ℤ (x -ℤ S *ℤ c)) → ⊥
+apart = slack< _ (pos 0) λ n. byD₂ _ λ x x′ q q′. slack< _ (D q q′) λ j. simp ints (omega arith)
+
+pub round-is : (S x c : ℤ) → pos 0 <ℤ S → negℤ S <ℤ (pos 2 *ℤ (x -ℤ S *ℤ c)) → (pos 2 *ℤ (x -ℤ S *ℤ c)) ≤ℤ S → c ≡ round S x
+round-is S x c S> l h = let r = round-rest S x S> in
+    trichotomy c (round S x) (λ k. absurd (apart S S> x c (round S x) k h (r .0))) (λ e. e) (λ k. absurd (apart S S> x (round S x) c k (r .1) l))
+
+-- the guess: y over m, by the reciprocal w of m, is right or one too low
+guess-up : (m w e ρ a : ℕ) → m * w + e ≡ 4294967296 → a * e ≤ 2147483648 * m → m * ρ ≤ m * 4294967295 → 0 < m
+    → (q : ℤ) → pos a *ℤ pos w -ℤ pos 2147483648 ≡ pos 4294967296 *ℤ q +ℤ pos ρ
+    → (pos 0 ≤ℤ (pos a -ℤ pos m *ℤ q)) × ((pos a -ℤ pos m *ℤ q) <ℤ pos (2 * m))
+guess-up m w e ρ a E h k m> = byD _ λ b b′. simp ints λ g. omega (arith, ap (λ (z : ℕ). m * z) g, ap (λ (z : ℕ). a * z) E)
+
+guess-down : (m w e ρ a : ℕ) → m * w + e ≡ 4294967296 → suc a * e ≤ 2147483648 * m → m * ρ ≤ m * 4294967295 → 0 < m
+    → (q : ℤ) → negsuc a *ℤ pos w -ℤ pos 2147483648 ≡ pos 4294967296 *ℤ q +ℤ pos ρ
+    → (pos 0 ≤ℤ (negsuc a -ℤ pos m *ℤ q)) × ((negsuc a -ℤ pos m *ℤ q) <ℤ pos (2 * m))
+guess-down m w e ρ a E h k m> = byD _ λ b b′. simp ints λ g. omega (arith, ap (λ (z : ℕ). m * z) g, ap (λ (z : ℕ). suc a * z) E)
+
+unfoldable pub guess : ℤ → ℤ → ℤ
+guess s y = floorDiv (y *ℤ pos (reciprocal s) -ℤ pos 2147483648) 4294967296
+
+guess-ok : (s : ℤ) → pos 1 ≤ℤ s → (y : ℤ) → natAbs y ≤ 2147483648
+    → (pos 0 ≤ℤ (y -ℤ pos 2 *ℤ s *ℤ guess s y)) × ((y -ℤ pos 2 *ℤ s *ℤ guess s y) <ℤ (pos 2 *ℤ (pos 2 *ℤ s)))
+unfolding guess
+guess-ok = byPos _ λ n y. go n y
+  where
+    go : (n : ℕ) (y : ℤ) → natAbs y ≤ 2147483648 → (pos 0 ≤ℤ (y -ℤ pos (2 * suc n) *ℤ guess (pos (suc n)) y)) × ((y -ℤ pos (2 * suc n) *ℤ guess (pos (suc n)) y) <ℤ pos (2 * (2 * suc n)))
+    go n (pos a) h = let m : ℕ = 2 * suc n in let w : ℕ = 4294967296 / m in let z : ℤ = pos a *ℤ pos w -ℤ pos 2147483648 in
+        let l : 4294967296 % m < m = mod-lt 4294967296 (omega arith) in let r : floorMod z 4294967296 < 4294967296 = floorMod-lt z 4294967296 (omega arith) in
+        guess-up m w (4294967296 % m) (floorMod z 4294967296) a (div-add-mod 4294967296 m) (mul-le-mul h (omega (arith, l))) (mul-le-mul (le-refl m) (omega (arith, r))) (omega arith) (floorDiv z 4294967296) (floor-split z 4294967296 (omega arith))
+    go n (negsuc a) h = let m : ℕ = 2 * suc n in let w : ℕ = 4294967296 / m in let z : ℤ = negsuc a *ℤ pos w -ℤ pos 2147483648 in
+        let l : 4294967296 % m < m = mod-lt 4294967296 (omega arith) in let r : floorMod z 4294967296 < 4294967296 = floorMod-lt z 4294967296 (omega arith) in
+        guess-down m w (4294967296 % m) (floorMod z 4294967296) a (div-add-mod 4294967296 m) (mul-le-mul h (omega (arith, l))) (mul-le-mul (le-refl m) (omega (arith, r))) (omega arith) (floorDiv z 4294967296) (floor-split z 4294967296 (omega arith))
+
+-- the guess and its carry round x
+module _ (s x : ℤ) (s≥ : pos 1 ≤ℤ s) (small : natAbs (x +ℤ s -ℤ pos 1) ≤ 2147483648) where
+  abbrev y : ℤ
+  y = x +ℤ s -ℤ pos 1
+
+  pub guess-round : guess s y +ℤ cond (leZ (pos 2 *ℤ s) (y -ℤ pos 2 *ℤ s *ℤ guess s y)) (pos 1) (pos 0) ≡ round (pos 2 *ℤ s) x
+  guess-round = go (leZ (pos 2 *ℤ s) (y -ℤ pos 2 *ℤ s *ℤ guess s y)) refl
+    where
+      yes-carry : (s x q : ℤ) → pos 1 ≤ℤ s → (x +ℤ s -ℤ pos 1 -ℤ pos 2 *ℤ s *ℤ q) <ℤ (pos 2 *ℤ (pos 2 *ℤ s)) → (pos 2 *ℤ s) ≤ℤ (x +ℤ s -ℤ pos 1 -ℤ pos 2 *ℤ s *ℤ q)
+          → (negℤ (pos 2 *ℤ s) <ℤ (pos 2 *ℤ (x -ℤ pos 2 *ℤ s *ℤ (q +ℤ pos 1)))) × ((pos 2 *ℤ (x -ℤ pos 2 *ℤ s *ℤ (q +ℤ pos 1))) ≤ℤ (pos 2 *ℤ s))
+      yes-carry = byD₃ _ λ _ _ _ _ _ _. simp ints (omega arith)
+
+      no-carry : (s x q : ℤ) → pos 1 ≤ℤ s → pos 0 ≤ℤ (x +ℤ s -ℤ pos 1 -ℤ pos 2 *ℤ s *ℤ q) → (x +ℤ s -ℤ pos 1 -ℤ pos 2 *ℤ s *ℤ q) <ℤ (pos 2 *ℤ s)
+          → (negℤ (pos 2 *ℤ s) <ℤ (pos 2 *ℤ (x -ℤ pos 2 *ℤ s *ℤ (q +ℤ pos 0)))) × ((pos 2 *ℤ (x -ℤ pos 2 *ℤ s *ℤ (q +ℤ pos 0))) ≤ℤ (pos 2 *ℤ s))
+      no-carry = byD₃ _ λ _ _ _ _ _ _. simp ints (omega arith)
+
+      go : (b : Bool) → leZ (pos 2 *ℤ s) (y -ℤ pos 2 *ℤ s *ℤ guess s y) ≡ b → guess s y +ℤ cond b (pos 1) (pos 0) ≡ round (pos 2 *ℤ s) x
+      go true e = let g = guess-ok s s≥ y small in let k = yes-carry s x (guess s y) s≥ (g .1) (leZ-true _ _ e) in round-is (pos 2 *ℤ s) x _ (twice-pos s s≥ .1) (k .0) (k .1)
+      go false e = let g = guess-ok s s≥ y small in let k = no-carry s x (guess s y) s≥ (g .0) (leZ-false _ _ e) in round-is (pos 2 *ℤ s) x _ (twice-pos s s≥ .1) (k .0) (k .1)
+
+-- what is left, and how large a rounded coordinate is
+half-left : (s r : ℤ) → pos 1 ≤ℤ s → negℤ (pos 2 *ℤ s) <ℤ (pos 2 *ℤ r) → (pos 2 *ℤ r) ≤ℤ (pos 2 *ℤ s) → natAbs r ≤ natAbs s
+half-left = byD₂ _ λ _ _ _ _. simp (ints, abs-D) (omega arith)
+
+pub left-small : (s : ℤ) → Divisor s → (x : ℤ) → natAbs (left (pos 2 *ℤ s) x) ≤ natAbs s
+left-small s h x = let r = round-rest (pos 2 *ℤ s) x (twice-pos s (h .least) .1) in half-left s (left (pos 2 *ℤ s) x) (h .least) (r .0) (r .1)
+
+pub round-small : (s : ℤ) → Divisor s → (x : ℤ) → natAbs (round (pos 2 *ℤ s) x) ≤ natAbs x + 16384
+round-small s h x = let r : ℤ = round (pos 2 *ℤ s) x in let m : ℕ = natAbs (pos 2 *ℤ s) in
+    omega (arith, le-mul m (natAbs r) (m> s (h .least)), abs-mul (pos 2 *ℤ s) r, back x (pos 2 *ℤ s *ℤ r), left-small s h x, h .most)
+  where
+    le-mul : (m k : ℕ) → 0 < m → k ≤ m * k
+    le-mul (suc m) k l = omega arith
+
+    m> : (s : ℤ) → pos 1 ≤ℤ s → 0 < natAbs (pos 2 *ℤ s)
+    m> = byPos _ λ n. omega arith
+
+    back : (x z : ℤ) → natAbs z ≤ natAbs x + natAbs (x -ℤ z)
+    back = byD₂ _ λ _ _ _ _. simp (ints, abs-D) (omega arith)
+
+pub reciprocal-small : (s : ℤ) → pos 1 ≤ℤ s → reciprocal s ≤ 2147483648
+reciprocal-small = byPos _ λ n. omega (arith, div-add-mod 4294967296 (2 * suc n))
+
+-- the same in the code's terms
+module _ (s x w : ℤ) (h : Divisor s) (k : natAbs x ≤ 2 ^ 30 + 2 ^ 14) (e : w ≡ pos (reciprocal s)) where
+  abbrev pub codeY : ℤ
+  codeY = x +ℤ s -ℤ pos 1
+
+  abbrev pub codeZ : ℤ
+  codeZ = codeY *ℤ w -ℤ pos 2147483648
+
+  abbrev pub codeQ : ℤ
+  codeQ = shrZ codeZ 4294967296
+
+  pub y-small : natAbs codeY ≤ 2147483648
+  y-small = omega (arith, abs-sub (x +ℤ s) (pos 1), abs-add x s, h .most)
+
+  is-guess : codeQ ≡ guess s codeY
+  unfolding guess
+  is-guess = floorDiv-shr codeZ 4294967296 ∙ ap (λ (t : ℤ). floorDiv (codeY *ℤ t -ℤ pos 2147483648) 4294967296) e
+
+  product-small : (y m z : ℤ) → pos 0 ≤ℤ (y -ℤ z) → (y -ℤ z) <ℤ (pos 2 *ℤ m) → natAbs z ≤ natAbs y + 2 * natAbs m
+  product-small = byD₃ _ λ _ _ _ _ _ _. simp (ints, abs-D) (omega arith)
+
+  pub mq-small : natAbs ((s +ℤ s) *ℤ codeQ) ≤ 2147549184
+  mq-small = let g = guess-ok s (h .least) codeY y-small in
+      rw (is-guess, twice s) (omega (arith, product-small codeY (pos 2 *ℤ s) (pos 2 *ℤ s *ℤ guess s codeY) (g .0) (g .1), abs-mul (pos 2) s, h .most, y-small))
+
+  pub code-round : codeQ +ℤ cond (leZ (s +ℤ s) (codeY -ℤ (s +ℤ s) *ℤ codeQ)) (pos 1) (pos 0) ≡ round (pos 2 *ℤ s) x
+  code-round = rw (is-guess, twice s) (guess-round s x (h .least) y-small)
+
+pub less-one : (x s : ℤ) → x -ℤ s ≡ x -ℤ s *ℤ pos 1
+less-one = byD₂ _ λ _ _ _ _. simp ints (omega arith)
+
+pub zero-less : (x : ℤ) → natAbs (pos 0 -ℤ x) ≡ natAbs x
+zero-less = byD _ λ _ _. simp (ints, abs-D) (omega arith)
+
+pub zero-less-pos : (x : ℤ) → x ≤ℤ pos 0 → pos 0 ≤ℤ (pos 0 -ℤ x)
+zero-less-pos = byD _ λ _ _. simp ints (omega arith)
+
+-- what a change adds to the cost, as the code computes it
+pub pen-up : (s x : ℤ) → pos 0 <ℤ x → pos 4 *ℤ s *ℤ (s -ℤ x) ≡ penalty (pos 2 *ℤ s) (natAbs x)
+pen-up s (pos n) h = go n s
+  where
+    go : (n : ℕ) (s : ℤ) → pos 4 *ℤ s *ℤ (s -ℤ pos n) ≡ penalty (pos 2 *ℤ s) n
+    go n = byD _ λ _ _. simp ints (omega arith)
+pen-up s (negsuc n) h = absurd (h .lt)
+
+pub pen-down : (s x : ℤ) → x ≤ℤ pos 0 → pos 4 *ℤ s *ℤ (s +ℤ x) ≡ penalty (pos 2 *ℤ s) (natAbs x)
+pen-down s (pos zero) h = go s
+  where
+    go : (s : ℤ) → pos 4 *ℤ s *ℤ (s +ℤ pos 0) ≡ penalty (pos 2 *ℤ s) 0
+    go = byD _ λ _ _. simp ints (omega arith)
+pen-down s (pos (suc n)) h = absurd (not-suc-le-zero (leb→le (suc n) 0 (h .le)))
+pen-down s (negsuc n) h = go n s
+  where
+    go : (n : ℕ) (s : ℤ) → pos 4 *ℤ s *ℤ (s +ℤ negsuc n) ≡ penalty (pos 2 *ℤ s) (suc n)
+    go n = byD _ λ _ _. simp ints (omega arith)

@@ -1,0 +1,70 @@
+-- How the code finds the nearest point of D_n: round each entry, and change one where the sum is odd. No promise to a user cites these.
+use mathlib.Core.Path.{_≡_}
+use mathlib.Core.Logic.{_⊎_}
+use mathlib.Core.Bool.{Bool, true, false, cond}
+use mathlib.Core.List.{List, map}
+use Prim.Native.Nat.{ℕ, _+_, _*_, _-_, _/_, _%_, _<_, _≤_}
+use lib.Dec.{ltb}
+use lib.IntN.{ℤ, pos, negsuc, natAbs, _+ℤ_, _-ℤ_, _*ℤ_}
+use lib.ListN.{set}
+use lib.Signed.{_≤ℤ_, _<ℤ_, leZ, ltZ}
+use Rattle.integers.specs.Floor.{floorDiv}
+use Rattle.integers.specs.Vectors.{«at»}
+
+-- the whole number nearest to x / S, the lower of two as near
+unfoldable pub round : ℤ → ℤ → ℤ
+round S x = floorDiv (pos 2 *ℤ x +ℤ S -ℤ pos 1) (2 * natAbs S)
+
+-- what it leaves of x
+abbrev pub left : ℤ → ℤ → ℤ
+left S x = x -ℤ S *ℤ round S x
+
+-- the next nearest: a step from there toward x, down where nothing is left
+unfoldable pub turn : ℤ → ℤ → ℤ
+turn S x = round S x +ℤ cond (ltZ (pos 0) (left S x)) (pos 1) (negsuc 0)
+
+-- v rounded, with the change at the place j
+abbrev pub changed : ℤ → List ℤ → ℕ → List ℤ
+changed S v j = set (map (round S) v) j (turn S («at» v j))
+
+-- what a change adds to the cost where m is left, up to sign
+abbrev pub penalty : ℤ → ℕ → ℤ
+penalty S m = S *ℤ S -ℤ pos 2 *ℤ S *ℤ pos m
+
+-- the place to change, where r i is left of the entry i of n: the most, up to sign; of those the first that goes down, or, where all go up, the last
+pub record Place (n : ℕ) (r : ℕ → ℤ) (j : ℕ) : Type 0 where
+  pub within : j < n
+  pub most : (i : ℕ) → i < n → natAbs (r i) ≤ natAbs (r j)
+  pub tie : ((r j ≤ℤ pos 0) × ((i : ℕ) → i < j → natAbs (r i) ≡ natAbs (r j) → pos 0 <ℤ r i))
+      ⊎ ((i : ℕ) → i < n → natAbs (r i) ≡ natAbs (r j) → (pos 0 <ℤ r i) × (i ≤ j))
+
+-- a divisor that the code takes: 1 to 2^14
+pub record Divisor (s : ℤ) : Type 0 where
+  pub least : pos 1 ≤ℤ s
+  pub most : natAbs s ≤ 16384
+
+-- 2^32 over 2s, rounded down
+abbrev pub reciprocal : ℤ → ℕ
+reciprocal s = 4294967296 / (2 * natAbs s)
+
+-- a number whose order is the order of `Place`, for the first eight entries: what is left x at the entry i
+abbrev pub key : ℕ → ℤ → ℕ
+key i x = cond (leZ x (pos 0)) (natAbs x * 16 + (15 - i)) (natAbs x * 16 + i)
+
+-- the entry that a key is of
+abbrev pub spot : ℕ → ℕ
+spot k = cond (ltb (k % 16) 8) (k % 16) (15 - k % 16)
+
+-- r is the greater of a and b
+pub record Greater (a b r : ℕ) : Type 0 where
+  pub first : a ≤ r
+  pub second : b ≤ r
+  pub one : (r ≡ a) ⊎ (r ≡ b)
+
+-- true where s is, else u where t is, else false
+abbrev pub inTurn : Bool → Bool → Bool → Bool
+inTurn s t u = elim s [ true ↦ true | false ↦ elim t [ true ↦ u | false ↦ false ] ]
+
+-- whether an even point of cost a, its first half-entry x, comes before an odd one of cost b, its first half-entry y
+abbrev pub ahead : ℤ → ℤ → ℤ → ℤ → Bool
+ahead a b x y = inTurn (ltZ a b) (leZ a b) (leZ x y)
