@@ -6,6 +6,10 @@ pub mod Halves
 pub mod Moves
 pub mod Close
 pub mod Theorems
+pub mod Tables
+pub mod Rows
+pub mod Basis
+pub mod Written
 pub mod Rounds
 pub mod Mending
 pub mod Places

@@ -2,5 +2,6 @@
 pub mod Doubled
 pub mod Nearest
 pub mod Computed
+pub mod Basis
 pub mod Rounding
 pub mod Laws

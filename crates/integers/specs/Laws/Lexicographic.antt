@@ -51,4 +51,3 @@ pub ≤V-add : (a b c : List ℤ) → length a ≡ length b → a ≤V b → add
 ≤V-add (x ∷ a) (y ∷ b) [] e p = p
 ≤V-add (x ∷ a) (y ∷ b) (z ∷ c) e (inl p) = inl (add-lt x y z p)
 ≤V-add (x ∷ a) (y ∷ b) (z ∷ c) e (inr p) = inr (ap (λ (t : ℤ). t +ℤ z) (p .0), ≤V-add a b c (suc-inj e) (p .1))
-

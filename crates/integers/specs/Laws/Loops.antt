@@ -14,4 +14,3 @@ module _ {A B : Type 0} (f : A → B) where
 
   pub fill-done : (a : List A) (r : List B) (n : ℕ) → length a ≤ n → length r ≤ n → take n r ≡ map f (take n a) → r ≡ map f a
   fill-done a r n h k e = sym (take-all n r k) ∙ e ∙ ap (map f) (take-all n a h)
-

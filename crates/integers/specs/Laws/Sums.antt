@@ -5,7 +5,7 @@ use Prim.Native.Nat.{ℕ, zero, suc, _*_, _<_, _≤_, max}
 use native.Mathlib.Nat.{mul-le-mul}
 use native.Mathlib.Omega.{arith}
 use lib.IntN.{ℤ, pos, negℤ, natAbs, _+ℤ_, _-ℤ_, _*ℤ_, +ℤ-idl, +ℤ-idr, +ℤ-comm, *ℤ-comm, *ℤ-zero}
-use lib.ListN.{length, getD, take, set, length-map, length-replicate, length-set}
+use lib.ListN.{length, getD, take, set, length-map, length-set, length-replicate}
 use lib.Seq.{ext-getD, take-all}
 use Rattle.integers.specs.Laws.Difference.{byD, ints, byD₂, byD₃, byD₄}
 use Rattle.integers.specs.Laws.Sizes.{abs-add, abs-mul}
@@ -130,6 +130,14 @@ dot-add-r a b c = dot-comm c (addV a b) ∙ dot-add a b c ∙ ap₂ _+ℤ_ (dot-
 
 pub dot-scale-r : (k : ℤ) (a b : List ℤ) → dot a (scaleV k b) ≡ k *ℤ dot a b
 dot-scale-r k a b = dot-comm a (scaleV k b) ∙ dot-scale k b a ∙ ap (λ (t : ℤ). k *ℤ t) (dot-comm b a)
+
+zero-step : (y d : ℤ) → d ≡ pos 0 → y *ℤ pos 0 +ℤ d ≡ pos 0
+zero-step = byD₂ _ λ _ _ _ _. simp ints (omega arith)
+
+pub dot-zeros : (x : List ℤ) (n : ℕ) → dot x (zeros n) ≡ pos 0
+dot-zeros [] n = refl
+dot-zeros (y ∷ x) zero = refl
+dot-zeros (y ∷ x) (suc n) = zero-step y (dot x (zeros n)) (dot-zeros x n)
 
 -- ---- one entry more, as a loop that goes up adds it; past the end it adds 0
 

@@ -1,7 +1,7 @@
 -- From D_n to the doubled points of one parity, and to both parities together.
 use mathlib.Core.Path.{_≡_, refl, sym, _∙_, ap, ap₂, subst}
 use mathlib.Core.Logic.{_⊎_, inl, inr, ⊎-elim, _↔_}
-use mathlib.Core.List.{List, [], _∷_, map}
+use mathlib.Core.List.{List, [], _∷_}
 use Prim.Native.Nat.{ℕ, suc, _+_, _*_, _/_, _%_, _<_}
 use native.Mathlib.Omega.{arith}
 use native.Mathlib.Decide.{decLe}
@@ -12,6 +12,7 @@ use Rattle.integers.specs.Floor.{floorDiv, floorMod}
 use Rattle.integers.specs.Laws.Difference.{D, abs-D, byD, ints, byD₂, byD₃}
 use Rattle.integers.specs.Laws.Floors.{floorMod-lt, floor-split}
 use Rattle.integers.specs.Vectors.{square, sumV, _≤V_}
+use Rattle.lattice.specs.Basis.{floors}
 use Rattle.lattice.specs.Computed.{spread, lower, nearestHalf, nearestPoint}
 use Rattle.lattice.specs.Doubled.{par, All, Half, Doubled}
 use Rattle.lattice.specs.Laws.Dn.{Summed, nearestD-least}
@@ -47,15 +48,16 @@ spread-all : (p : ℕ) → p < 2 → (f : List ℤ) → All p (spread p f)
 spread-all p h [] = tt
 spread-all p h (y ∷ f) = (spread-par p h y, spread-all p h f)
 
-halve : (p r : ℕ) → p < 2 → r < 2 → (x q : ℤ) → x ≡ pos 2 *ℤ q +ℤ pos r → par x ≡ p → pos 2 *ℤ q +ℤ pos p ≡ x
-halve p r h k = byD₂ _ λ _ _ _ _. simp parities (omega arith)
+halve-step : (p r : ℕ) → p < 2 → r < 2 → (x q : ℤ) → x ≡ pos 2 *ℤ q +ℤ pos r → par x ≡ p → pos 2 *ℤ q +ℤ pos p ≡ x
+halve-step p r h k = byD₂ _ λ _ _ _ _. simp parities (omega arith)
 
-abbrev halves : List ℤ → List ℤ
-halves e = map (λ (x : ℤ). floorDiv x 2) e
+pub halve : (p : ℕ) → p < 2 → (x : ℤ) → par x ≡ p → pos 2 *ℤ floorDiv x 2 +ℤ pos p ≡ x
+halve p h x = halve-step p (floorMod x 2) h (floorMod-lt x 2 (omega arith)) x (floorDiv x 2) (floor-split x 2 (omega arith))
 
-spread-halves : (p : ℕ) → p < 2 → (e : List ℤ) → All p e → spread p (halves e) ≡ e
+-- entries of parity p are twice their halves and p
+pub spread-halves : (p : ℕ) → p < 2 → (e : List ℤ) → All p e → spread p (floors 2 e) ≡ e
 spread-halves p h [] a = refl
-spread-halves p h (x ∷ e) a = ap₂ _∷_ (halve p (floorMod x 2) h (floorMod-lt x 2 (omega arith)) x (floorDiv x 2) (floor-split x 2 (omega arith)) (a .0)) (spread-halves p h e (a .1))
+spread-halves p h (x ∷ e) a = ap₂ _∷_ (halve p h x (a .0)) (spread-halves p h e (a .1))
 
 lt-step : (p : ℕ) (x y : ℤ) → x <ℤ y → (pos 2 *ℤ x +ℤ pos p) <ℤ (pos 2 *ℤ y +ℤ pos p)
 lt-step p = byD₂ _ λ _ _ _ _. simp ints (omega arith)
@@ -88,20 +90,20 @@ module _ (s : ℤ) (s> : pos 0 <ℤ s) (n : ℕ) (d : List ℤ) (long : length d
           four = rw (spread-sum p f) (two-four (p * length f) (rw l whole) (sumV f) .0 (h .parity));
         }
 
-    onto-half : (e : List ℤ) → Half p n e → Summed 0 (lower s p d) (halves e) × (spread p (halves e) ≡ e)
+    onto-half : (e : List ℤ) → Half p n e → Summed 0 (lower s p d) (floors 2 e) × (spread p (floors 2 e) ≡ e)
     onto-half e h =
-        let q : spread p (halves e) ≡ e = spread-halves p p< e (h .alike) in
-        let l : length (halves e) ≡ n = length-map e _ ∙ h .long in (
+        let q : spread p (floors 2 e) ≡ e = spread-halves p p< e (h .alike) in
+        let l : length (floors 2 e) ≡ n = length-map e _ ∙ h .long in (
           record {
             long = l ∙ sym (length-map d _ ∙ long);
-            parity = two-four (p * length (halves e)) (rw l whole) (sumV (halves e)) .1 (subst (λ (t : ℤ). natAbs t % 4 ≡ 0) (ap sumV (sym q) ∙ spread-sum p (halves e)) (h .four));
+            parity = two-four (p * length (floors 2 e)) (rw l whole) (sumV (floors 2 e)) .1 (subst (λ (t : ℤ). natAbs t % 4 ≡ 0) (ap sumV (sym q) ∙ spread-sum p (floors 2 e)) (h .four));
           },
           q,
         )
 
     pub nearestHalf-least : Least (Half p n) (cost s d) (nearestHalf p s d)
     unfolding nearestHalf
-    nearestHalf-least = least-map (spread p) halves into-half onto-half (λ f h. cost-spread p s d f) (λ f g h k. spread-≤V p f g) (nearestD-least (pos 2 *ℤ s) (double-pos s s>) (lower s p d))
+    nearestHalf-least = least-map (spread p) (floors 2) into-half onto-half (λ f h. cost-spread p s d f) (λ f g h k. spread-≤V p f g) (nearestD-least (pos 2 *ℤ s) (double-pos s s>) (lower s p d))
 
   whole-half : (e : List ℤ) → Doubled n e → Half 0 n e ⊎ Half 1 n e
   whole-half e h = ⊎-elim (λ a. inl (record { long = h .long; alike = a; four = h .four })) (λ a. inr (record { long = h .long; alike = a; four = h .four })) (h .alike)

@@ -1,0 +1,87 @@
+-- Tables as linear maps: products, the diagonal, and what makes two tables inverse to each other on a lattice.
+use mathlib.Core.Path.{_≡_, refl, sym, _∙_, ap, ap₂}
+use mathlib.Core.List.{List, [], _∷_, map}
+use Prim.Native.Nat.{ℕ, zero, suc, _<_}
+use native.Mathlib.Nat.{suc-inj}
+use native.Mathlib.Omega.{arith}
+use lib.IntN.{ℤ, pos, _+ℤ_, _*ℤ_}
+use lib.ListN.{length}
+use Rattle.integers.specs.Floor.{floorDiv, floorMod}
+use Rattle.integers.specs.Laws.Difference.{byD, ints, byD₂, byD₃}
+use Rattle.integers.specs.Laws.Floors.{floor-split, floor-unique}
+use Rattle.integers.specs.Laws.Sums.{dot-comm, dot-add, dot-scale, dot-add-r, dot-scale-r, dot-zeros}
+use Rattle.integers.specs.Vectors.{zeros, addV, scaleV, dot}
+use Rattle.lattice.specs.Basis.{apply, comb, times, diag, floors}
+
+pub dot-apply : (r : List ℤ) (B : List (List ℤ)) (c : List ℤ) → dot r (apply B c) ≡ dot (comb r B) c
+dot-apply [] B c = refl
+dot-apply (x ∷ r) [] c = refl
+dot-apply (x ∷ r) (b ∷ B) c = ap₂ _+ℤ_ (sym (dot-scale x b c)) (dot-apply r B c) ∙ sym (dot-add (scaleV x b) (comb r B) c)
+
+pub apply-apply : (W B : List (List ℤ)) (c : List ℤ) → apply W (apply B c) ≡ apply (times W B) c
+apply-apply [] B c = refl
+apply-apply (r ∷ W) B c = ap₂ _∷_ (dot-apply r B c) (apply-apply W B c)
+
+pub apply-add : (B : List (List ℤ)) (a b : List ℤ) → apply B (addV a b) ≡ addV (apply B a) (apply B b)
+apply-add [] a b = refl
+apply-add (r ∷ B) a b = ap₂ _∷_ (dot-add-r a b r) (apply-add B a b)
+
+pub apply-scale : (B : List (List ℤ)) (k : ℤ) (a : List ℤ) → apply B (scaleV k a) ≡ scaleV k (apply B a)
+apply-scale [] k a = refl
+apply-scale (r ∷ B) k a = ap₂ _∷_ (dot-scale-r k r a) (apply-scale B k a)
+
+first-step : (k x d : ℤ) → d ≡ pos 0 → k *ℤ x +ℤ d ≡ k *ℤ x
+first-step = byD₃ _ λ _ _ _ _ _ _. simp ints (omega arith)
+
+skip-step : (x d : ℤ) → pos 0 *ℤ x +ℤ d ≡ d
+skip-step = byD₂ _ λ _ _ _ _. simp ints (omega arith)
+
+skip : (x : ℤ) (c : List ℤ) (B : List (List ℤ)) → apply (map (λ (r : List ℤ). pos 0 ∷ r) B) (x ∷ c) ≡ apply B c
+skip x c [] = refl
+skip x c (r ∷ B) = ap₂ _∷_ (skip-step x (dot r c)) (skip x c B)
+
+pub apply-diag : (k : ℤ) (n : ℕ) (c : List ℤ) → length c ≡ n → apply (diag k n) c ≡ scaleV k c
+apply-diag k zero [] h = refl
+apply-diag k zero (x ∷ c) h = absurd (omega arith)
+apply-diag k (suc n) [] h = absurd (omega arith)
+apply-diag k (suc n) (x ∷ c) h = ap₂ _∷_ (first-step k x (dot (zeros n) c) (dot-comm (zeros n) c ∙ dot-zeros c n)) (skip x c (diag k n) ∙ apply-diag k n c (suc-inj h))
+
+-- k divides each entry
+abbrev pub Whole : ℕ → List ℤ → Type 0
+Whole k [] = Unit {0}
+Whole k (x ∷ w) = (floorMod x k ≡ 0) × Whole k w
+
+over-step : (z : ℤ) → z ≡ z +ℤ pos 0
+over-step = byD _ λ _ _. simp ints (omega arith)
+
+module _ (k : ℕ) (k> : 0 < k) where
+  pub floors-scale : (c : List ℤ) → floors k (scaleV (pos k) c) ≡ c
+  floors-scale [] = refl
+  floors-scale (x ∷ c) = ap₂ _∷_ (floor-unique (pos k *ℤ x) k x 0 k> (over-step (pos k *ℤ x)) .0) (floors-scale c)
+
+  pub scale-floors : (w : List ℤ) → Whole k w → scaleV (pos k) (floors k w) ≡ w
+  scale-floors [] h = refl
+  scale-floors (x ∷ w) h = ap₂ _∷_ (over-step (pos k *ℤ floorDiv x k) ∙ sym (floor-split x k k> ∙ ap (λ (r : ℕ). pos k *ℤ floorDiv x k +ℤ pos r) (h .0))) (scale-floors w (h .1))
+
+-- what is asked of the tables
+pub record Based (n k : ℕ) (B W : List (List ℤ)) (In : List ℤ → Type 0) : Type 0 where
+  pub some : 0 < k
+  pub rows : length B ≡ n
+  pub back-rows : length W ≡ n
+  pub there : times W B ≡ diag (pos k) n
+  pub back : times B W ≡ diag (pos k) n
+  pub long : (e : List ℤ) → In e → length e ≡ n
+  pub whole : (e : List ℤ) → In e → Whole k (apply W e)
+  pub points : (c : List ℤ) → length c ≡ n → In (apply B c)
+
+module _ (n k : ℕ) (B W : List (List ℤ)) (In : List ℤ → Type 0) (t : Based n k B W In) where
+  pub there-back : (c : List ℤ) → length c ≡ n → floors k (apply W (apply B c)) ≡ c
+  there-back c h = ap (floors k) (apply-apply W B c ∙ ap (λ (M : List (List ℤ)). apply M c) (t .there) ∙ apply-diag (pos k) n c h) ∙ floors-scale k (t .some) c
+
+  pub back-there : (e : List ℤ) → In e → apply B (floors k (apply W e)) ≡ e
+  back-there e h =
+      let w : List ℤ = apply W e in
+      let p : scaleV (pos k) (apply B (floors k w)) ≡ scaleV (pos k) e =
+      sym (apply-scale B (pos k) (floors k w)) ∙ ap (apply B) (scale-floors k (t .some) w (t .whole e h))
+      ∙ apply-apply B W e ∙ ap (λ (M : List (List ℤ)). apply M e) (t .back) ∙ apply-diag (pos k) n e (t .long e h) in
+      sym (floors-scale k (t .some) (apply B (floors k w))) ∙ ap (floors k) p ∙ floors-scale k (t .some) e
