@@ -2,7 +2,7 @@
 use mathlib.Core.Path.{_≡_}
 use mathlib.Core.Logic.{_⊎_}
 use mathlib.Core.Bool.{Bool, true, false, cond}
-use mathlib.Core.List.{List, map}
+use mathlib.Core.List.{List, [], _∷_, map}
 use Prim.Native.Nat.{ℕ, _+_, _*_, _-_, _/_, _%_, _<_, _≤_}
 use lib.Dec.{ltb}
 use lib.IntN.{ℤ, pos, negsuc, natAbs, _+ℤ_, _-ℤ_, _*ℤ_}
@@ -22,6 +22,12 @@ left S x = x -ℤ S *ℤ round S x
 -- the next nearest: a step from there toward x, down where nothing is left
 unfoldable pub turn : ℤ → ℤ → ℤ
 turn S x = round S x +ℤ cond (ltZ (pos 0) (left S x)) (pos 1) (negsuc 0)
+
+-- what is left of v after S times f, entry by entry
+abbrev pub rests : ℤ → List ℤ → List ℤ → List ℤ
+rests S [] f = []
+rests S (x ∷ v) [] = []
+rests S (x ∷ v) (y ∷ f) = (x -ℤ S *ℤ y) ∷ rests S v f
 
 -- v rounded, with the change at the place j
 abbrev pub changed : ℤ → List ℤ → ℕ → List ℤ

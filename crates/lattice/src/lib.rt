@@ -1,1 +1,4 @@
-// The nearest point.
+// The nearest point of E8, held doubled (01, The lattice).
+mod coordinate;
+mod half;
+pub mod point;

@@ -1,0 +1,2 @@
+-- Proved facts of readings, for those who use them.
+pub mod Nearest
