@@ -1,5 +1,6 @@
-// Signed arithmetic that the machine does not have: division by a positive number that rounds down.
+// Arithmetic that the machine does not have: division by a positive number that rounds down, and powers.
 ghost use mathlib.Core.Path.{_≡_};
+ghost use Prim.Native.Nat.{_<_, _^_};
 ghost use lib.IntN.{pos, natAbs};
 ghost use lib.Signed.{_≤ℤ_};
 ghost use Rattle.integers.specs.Floor.{floorDiv, floorMod};
@@ -19,4 +20,18 @@ pub fn floor_mod(x: i64, m: i64) -> i64
 {
     let r = x % m;
     if r < 0 { r + m } else { r }
+}
+
+// q to the power m.
+pub fn power(q: u64, m: u64) -> u64
+    requires { ⌜ q ^ m < 2 ^ 64 ⌝ }
+    ensures { λ r. ⌜ r ≡ q ^ m ⌝ }
+{
+    let mut p: u64 = 1;
+    let mut i: u64 = 0;
+    while i < m {
+        p = p * q;
+        i = i + 1;
+    }
+    p
 }

@@ -1,2 +1,5 @@
 -- Proved facts of readings, for those who use them.
 pub mod Nearest
+pub mod Exact
+pub mod Taking
+pub mod Patterns

@@ -21,6 +21,16 @@ measureFloat nan = Missing
 measureFloat (inf s) = OutOfRange
 measureFloat (fin s m e) = measureUnits (nearest (signed s (1024 * (m * up e))) (down e))
 
+-- a binary32 pattern
+abbrev pub measureBits : ℕ → Measured
+measureBits bits = measureFloat (ofBits binary32 bits)
+
+-- X, where there is one, is at most 2 ^ 24 in magnitude
+abbrev pub InRange : Measured → Type 0
+InRange (Units X) = natAbs X ≤ 2 ^ 24
+InRange Missing = Unit {0}
+InRange OutOfRange = Unit {0}
+
 -- what is handed out: the value X / 1024
 abbrev pub takenOf : Measured → Taken
 takenOf (Units X) = T.Value (fraction X 1024)

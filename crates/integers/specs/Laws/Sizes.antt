@@ -1,13 +1,13 @@
 -- Sizes of integers, and what fits an i64. A bound is stated as `natAbs x ≤ B`, which omega reads.
 use mathlib.Core.Path.{_≡_, refl, sym, subst}
 use mathlib.Core.Logic.{⊎-elim}
-use Prim.Native.Nat.{ℕ, zero, suc, _+_, _*_, _^_, _/_, _<_, _≤_}
+use mathlib.Core.Bool.{Bool, true, false, not}
+use Prim.Native.Nat.{ℕ, zero, suc, _+_, _*_, _/_, _^_, _<_, _≤_}
 use native.Mathlib.Nat.{mul-le-mul, div-le-self}
 use native.Mathlib.Omega.{arith}
-use lib.IntN.{ℤ, pos, negsuc, negℤ, natAbs, _+ℤ_, _-ℤ_, _*ℤ_}
-use mathlib.Core.Bool.{true, false}
 use lib.Dec.{T}
-use lib.Signed.{_≤ℤ_, _<ℤ_, quotZ, remZ, mag-rem, leZ, ltZ}
+use lib.IntN.{ℤ, pos, negsuc, negℤ, natAbs, _+ℤ_, _-ℤ_, _*ℤ_}
+use lib.Signed.{_≤ℤ_, _<ℤ_, leZ, ltZ, clashℤ, quotZ, remZ, mag-rem}
 use mir.Syntax.{w64}
 use mir.Val.{SFits, ofZ}
 use Rattle.integers.specs.Laws.Difference.{abs-D, ints, byD₂}
@@ -80,3 +80,22 @@ ltZ-false a b e = ⊎-elim (λ h. h) (λ h. absurd (subst T e (h .lt))) (≤ℤ-
 
 pub fits-rem : (x m : ℤ) → SFits w64 x → SFits w64 (remZ x m)
 fits-rem x m h = record { sfits = omega (arith, mag-rem x m, h .sfits) }
+
+-- a test is the other way round where it fails
+pub leZ-not : (a b : ℤ) (t : Bool) → ltZ b a ≡ t → leZ a b ≡ not t
+leZ-not a b t e = go t e (leZ a b) refl
+  where
+    go : (t : Bool) → ltZ b a ≡ t → (u : Bool) → leZ a b ≡ u → u ≡ not t
+    go true e true f = clashℤ (ltZ-true b a e) (leZ-true a b f)
+    go true e false f = refl
+    go false e true f = refl
+    go false e false f = clashℤ (leZ-false a b f) (ltZ-false b a e)
+
+pub ltZ-not : (a b : ℤ) (t : Bool) → leZ b a ≡ t → ltZ a b ≡ not t
+ltZ-not a b t e = go t e (ltZ a b) refl
+  where
+    go : (t : Bool) → leZ b a ≡ t → (u : Bool) → ltZ a b ≡ u → u ≡ not t
+    go true e true f = clashℤ (ltZ-true a b f) (leZ-true b a e)
+    go true e false f = refl
+    go false e true f = refl
+    go false e false f = clashℤ (leZ-false b a e) (ltZ-false a b f)

@@ -1,0 +1,28 @@
+-- `decoded_value` is s·e / 2048: the product fits, its cast is exact, and so is its quotient by a power of two.
+use mathlib.Core.Path.{refl}
+use native.Mathlib.Omega.{arith}
+use lib.IntN.{_*ℤ_}
+use lib.Ieee.{ofBits}
+use mir.Syntax.{w64}
+use mir.Val.{SFits}
+use mir.Facts.{toZ-ofZ}
+use Rattle.integers.specs.Laws.Sizes.{fits-abs}
+use Rattle.readings.specs.Laws.Exact.{castable, cast-divided}
+use Rattle.readings.proofs.exact.decoded_value.Statement.{statement}
+use Rattle.readings.proofs.exact.decoded_value.Tie as tie
+
+product : (s : tie.Start) → SFits w64 (s .args .s *ℤ s .args .e)
+product s = fits-abs _ (omega (arith, s .pre))
+
+mul-result : tie.Need-mul-result
+mul-result s = simp (toZ-ofZ, s .fits .s, s .fits .e) (product s)
+
+int-to-float-result : tie.Need-int-to-float-result
+int-to-float-result c = let s = c .before in simp (toZ-ofZ, s .fits .s, s .fits .e, product s) (castable _ (s .pre))
+
+returns : tie.Need-returns
+unfolding ofBits
+returns c = let s = c .before in simp (toZ-ofZ, s .fits .s, s .fits .e, product s) (cast-divided _ 11 1157627904 refl (s .pre))
+
+pub decoded-value-spec : {M : Type 1} → statement M
+decoded-value-spec = tie.close (tie.spec mul-result int-to-float-result returns)

@@ -1,0 +1,6 @@
+-- When the unit says no. Definitions stand here; `Laws` holds what is proved of them.
+pub mod Limits
+pub mod Verdicts
+pub mod Settings
+pub mod Steps
+pub mod Laws

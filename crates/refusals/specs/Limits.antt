@@ -1,0 +1,34 @@
+-- The limits of document 01, by name.
+use mathlib.Core.Bool.{Bool, _&&_}
+use Prim.Native.Nat.{ℕ}
+use lib.IntN.{ℤ}
+use lib.Signed.{leZ}
+
+-- x lies from least to most
+abbrev pub within : ℤ → ℤ → ℤ → Bool
+within least most x = leZ least x && leZ x most
+
+-- q (01, Layers and steps)
+abbrev pub qLeast : ℕ
+qLeast = 2
+
+abbrev pub qMost : ℕ
+qMost = 16
+
+-- M, the number of layers
+abbrev pub mLeast : ℕ
+mLeast = 1
+
+abbrev pub mMost : ℕ
+mMost = 4
+
+-- q^M
+abbrev pub powerMost : ℕ
+powerMost = 4096
+
+-- how many steps a list has at most, and how large each is
+abbrev pub stepsMost : ℕ
+stepsMost = 4
+
+abbrev pub stepMost : ℕ
+stepMost = 1024
