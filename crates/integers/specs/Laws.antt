@@ -8,3 +8,4 @@ pub mod Squares
 pub mod Sums
 pub mod Lexicographic
 pub mod Loops
+pub mod Tests

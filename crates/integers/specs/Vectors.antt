@@ -1,11 +1,12 @@
 -- Vectors: lists of signed numbers, of any length. An entry past the end counts as 0.
 use mathlib.Core.Path.{_≡_}
 use mathlib.Core.Logic.{_⊎_}
+use mathlib.Core.Bool.{Bool, true, _&&_}
 use mathlib.Core.List.{List, [], _∷_, map}
 use Prim.Native.Nat.{ℕ, _≤_}
 use lib.IntN.{ℤ, pos, negℤ, natAbs, _+ℤ_, _*ℤ_}
 use lib.ListN.{length, getD, replicate}
-use lib.Signed.{_<ℤ_}
+use lib.Signed.{_<ℤ_, leZ}
 
 abbrev pub square : ℤ → ℤ
 square x = x *ℤ x
@@ -60,3 +61,14 @@ Bounded B a = (i : ℕ) → natAbs («at» a i) ≤ B
 pub record Sized (n B : ℕ) (a : List ℤ) : Type 0 where
   pub long : length a ≡ n
   pub small : Bounded B a
+
+-- ---- tests
+
+-- x lies from least to most
+abbrev pub within : ℤ → ℤ → ℤ → Bool
+within least most x = leZ least x && leZ x most
+
+-- every entry is at most B in magnitude
+abbrev pub small : ℕ → List ℤ → Bool
+small B [] = true
+small B (x ∷ a) = within (negℤ (pos B)) (pos B) x && small B a

@@ -1,9 +1,10 @@
-// Arithmetic that the machine does not have: division by a positive number that rounds down, and powers.
+// Arithmetic that the machine does not have: division by a positive number that rounds down, and powers; tests of ranges.
 ghost use mathlib.Core.Path.{_≡_};
 ghost use Prim.Native.Nat.{_<_, _^_};
 ghost use lib.IntN.{pos, natAbs};
 ghost use lib.Signed.{_≤ℤ_};
 ghost use Rattle.integers.specs.Floor.{floorDiv, floorMod};
+ghost use Rattle.integers.specs.Vectors.{within, small};
 
 // The greatest whole number that is at most x / m.
 pub fn floor_div(x: i64, m: i64) -> i64
@@ -34,4 +35,27 @@ pub fn power(q: u64, m: u64) -> u64
         i = i + 1;
     }
     p
+}
+
+// Whether x lies from least to most.
+pub fn within(x: i32, least: i32, most: i32) -> bool
+    ensures { λ r. ⌜ r ≡ within least most x ⌝ }
+{
+    if x < least { false } else { x <= most }
+}
+
+// Whether every number is at most `most` in magnitude.
+pub fn small(a: &[i32], most: i32) -> bool
+    requires { ⌜ pos 0 ≤ℤ most ⌝ }
+    ensures { λ r. ⌜ r ≡ small (natAbs most) (now (a .entry)) ⌝ }
+{
+    let mut i: usize = 0;
+    while i < a.len() {
+        if within(a[i], 0 - most, most) {
+            i = i + 1;
+        } else {
+            return false;
+        }
+    }
+    true
 }

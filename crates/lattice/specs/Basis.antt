@@ -1,9 +1,11 @@
 -- The basis of E8 doubled, the way back, and the coefficients of a point (01, The lattice).
+use mathlib.Core.Path.{_≡_}
 use mathlib.Core.List.{List, [], _∷_, map}
-use Prim.Native.Nat.{ℕ, zero, suc}
+use Prim.Native.Nat.{ℕ, zero, suc, _^_, _<_}
 use lib.IntN.{ℤ, pos, negsuc}
+use lib.ListN.{length, getD}
 use Rattle.integers.specs.Floor.{floorDiv}
-use Rattle.integers.specs.Vectors.{zeros, addV, scaleV, dot}
+use Rattle.integers.specs.Vectors.{zeros, addV, scaleV, dot, Sized}
 
 -- row k gives e_k of the coefficients: e1 = 4 c1 - 2 c2 + c8, then e_k = 2 c_k - 2 c_(k+1) + c8, e7 = 2 c7 + c8, e8 = c8
 abbrev pub basis : List (List ℤ)
@@ -28,6 +30,11 @@ inverse =
     ∷ (pos 0 ∷ pos 0 ∷ pos 0 ∷ pos 0 ∷ pos 0 ∷ pos 2 ∷ pos 2 ∷ negsuc 3 ∷ [])
     ∷ (pos 0 ∷ pos 0 ∷ pos 0 ∷ pos 0 ∷ pos 0 ∷ pos 0 ∷ pos 2 ∷ negsuc 1 ∷ [])
     ∷ (pos 0 ∷ pos 0 ∷ pos 0 ∷ pos 0 ∷ pos 0 ∷ pos 0 ∷ pos 0 ∷ pos 4 ∷ []) ∷ []
+
+-- a table that the code takes: eight rows of eight numbers up to 16 in magnitude
+pub record Table8 (t : List (List ℤ)) : Type 0 where
+  pub long : length t ≡ 8
+  pub rows : (k : ℕ) → k < 8 → Sized 8 (2 ^ 4) (getD t k [])
 
 -- a table by a vector: the inner product of each row with it
 abbrev pub apply : List (List ℤ) → List ℤ → List ℤ

@@ -1,4 +1,3 @@
--- Proved facts of limits, settings and step lists.
-pub mod Limits
+-- Proved facts of settings and step lists.
 pub mod Allowed
 pub mod Edges

@@ -1,12 +1,5 @@
 -- The limits of document 01, by name.
-use mathlib.Core.Bool.{Bool, _&&_}
-use Prim.Native.Nat.{ℕ}
-use lib.IntN.{ℤ}
-use lib.Signed.{leZ}
-
--- x lies from least to most
-abbrev pub within : ℤ → ℤ → ℤ → Bool
-within least most x = leZ least x && leZ x most
+use Prim.Native.Nat.{ℕ, _^_}
 
 -- q (01, Layers and steps)
 abbrev pub qLeast : ℕ
@@ -32,3 +25,7 @@ stepsMost = 4
 
 abbrev pub stepMost : ℕ
 stepMost = 1024
+
+-- a coordinate of a doubled point, or of what the nearest point is asked for (01, The lattice)
+abbrev pub pointMost : ℕ
+pointMost = 2 ^ 26

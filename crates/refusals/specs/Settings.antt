@@ -6,7 +6,8 @@ use lib.IntN.{ℤ, pos, natAbs}
 use Rattle.refusals.specs.declared.settings.Settings.{Settings as Chosen}
 use Rattle.refusals.specs.declared.Refusal.the-variants.{Settings}
 use Rattle.refusals.specs.declared.Verdict.{Verdict}
-use Rattle.refusals.specs.Limits.{within, qLeast, qMost, mLeast, mMost, powerMost}
+use Rattle.integers.specs.Vectors.{within}
+use Rattle.refusals.specs.Limits.{qLeast, qMost, mLeast, mMost, powerMost}
 use Rattle.refusals.specs.Verdicts.{unless}
 
 -- q from 2 to 16, M from 1 to 4, q^M at most 4096

@@ -3,7 +3,6 @@ pub mod settings;
 pub mod steps;
 
 ghost use mathlib.Core.Path.{_≡_};
-ghost use Rattle.refusals.specs.Limits.{within};
 ghost use Rattle.refusals.specs.Verdicts.{numberOf, placeOf};
 
 // A name for each row of 01's table. What it carries is its place.
@@ -80,11 +79,4 @@ pub fn place_of(v: Verdict) -> usize
             Refusal::EmptyStore => 0,
         },
     }
-}
-
-// Whether x lies from least to most.
-pub fn within(x: i32, least: i32, most: i32) -> bool
-    ensures { λ r. ⌜ r ≡ within least most x ⌝ }
-{
-    if x < least { false } else { x <= most }
 }

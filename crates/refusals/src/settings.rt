@@ -3,7 +3,6 @@ ghost use mathlib.Core.Path.{_≡_};
 ghost use Rattle.refusals.specs.Settings.{goodSettings, checkSettings};
 use crate::Refusal;
 use crate::Verdict;
-use crate::within;
 
 pub const Q_LEAST: i32 = 2;
 
@@ -25,8 +24,8 @@ pub struct Settings {
 fn good_settings(q: i32, m: i32) -> bool
     ensures { λ r. ⌜ r ≡ goodSettings q m ⌝ }
 {
-    if within(q, Q_LEAST, Q_MOST) {
-        if within(m, M_LEAST, M_MOST) {
+    if integers::within(q, Q_LEAST, Q_MOST) {
+        if integers::within(m, M_LEAST, M_MOST) {
             integers::power(q as u64, m as u64) <= POWER_MOST
         } else {
             false

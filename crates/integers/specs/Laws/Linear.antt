@@ -3,9 +3,9 @@ use mathlib.Core.Path.{_≡_, sym, _∙_, ap, ap₂, subst₂}
 use Prim.Native.Nat.{ℕ, suc, _+_, _*_, _-_, _^_, _<_, _≤_}
 use native.Mathlib.Omega.{arith}
 use lib.IntN.{ℤ, pos, negsuc, negℤ, natAbs, _+ℤ_, _*ℤ_}
+use lib.Signed.{_≤ℤ_, _<ℤ_}
 use mir.Syntax.{w64}
 use mir.Val.{SFits}
-use lib.Signed.{_≤ℤ_, _<ℤ_}
 use Rattle.integers.specs.Laws.Difference.{D, pos-D, negsuc-D, neg-D, add-D, mul-D, eq-D, le-D, lt-D}
 
 abbrev pub posPart : ℤ → ℕ

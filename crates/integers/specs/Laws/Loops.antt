@@ -1,8 +1,10 @@
 -- What a loop over a list has done after i turns.
-use mathlib.Core.Path.{_≡_, sym, _∙_, ap}
+use mathlib.Core.Path.{_≡_, refl, sym, _∙_, ap}
 use mathlib.Core.List.{List, [], _∷_, _++_, map, map-append}
-use Prim.Native.Nat.{ℕ, _+_, _<_, _≤_}
+use Prim.Native.Nat.{ℕ, zero, suc, _+_, _<_, _≤_}
 use native.Mathlib.Numerals.{add-one}
+use native.Mathlib.Nat.{suc-inj}
+use native.Mathlib.Omega.{arith}
 use lib.ListN.{length, getD, take, set}
 use lib.Seq.{take-suc, take-suc-set, take-all}
 
@@ -14,3 +16,21 @@ module _ {A B : Type 0} (f : A → B) where
 
   pub fill-done : (a : List A) (r : List B) (n : ℕ) → length a ≤ n → length r ≤ n → take n r ≡ map f (take n a) → r ≡ map f a
   fill-done a r n h k e = sym (take-all n r k) ∙ e ∙ ap (map f) (take-all n a h)
+
+-- ---- a list by its entries
+
+-- i, i + 1 .. i + n - 1
+abbrev pub range : ℕ → ℕ → List ℕ
+range i zero = []
+range i (suc n) = i ∷ range (suc i) n
+
+module _ {A : Type 0} where
+  shift : (f : ℕ → A) (i n : ℕ) → map f (range (suc i) n) ≡ map (λ (k : ℕ). f (suc k)) (range i n)
+  shift f i zero = refl
+  shift f i (suc n) = ap (λ (l : List A). f (suc i) ∷ l) (shift f (suc i) n)
+
+  pub by-entries : (a : List A) (d : A) (n : ℕ) → length a ≡ n → a ≡ map (λ (i : ℕ). getD a i d) (range 0 n)
+  by-entries [] d zero h = refl
+  by-entries [] d (suc n) h = absurd (omega arith)
+  by-entries (x ∷ a) d zero h = absurd (omega arith)
+  by-entries (x ∷ a) d (suc n) h = ap (λ (l : List A). x ∷ l) (by-entries a d n (suc-inj h) ∙ sym (shift (λ (i : ℕ). getD (x ∷ a) i d) 0 n))

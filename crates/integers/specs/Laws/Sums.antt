@@ -9,7 +9,7 @@ use lib.ListN.{length, getD, take, set, length-map, length-set, length-replicate
 use lib.Seq.{ext-getD, take-all}
 use Rattle.integers.specs.Laws.Difference.{byD, ints, byD₂, byD₃, byD₄}
 use Rattle.integers.specs.Laws.Sizes.{abs-add, abs-mul}
-use Rattle.integers.specs.Vectors.{«at», zeros, addV, negV, scaleV, sumV, dot, Bounded, Sized}
+use Rattle.integers.specs.Vectors.{«at», zeros, addV, negV, scaleV, sumV, dot, Bounded, Sized, small}
 
 -- ---- entries and lengths: an equation of vectors is one of entries and one of lengths
 

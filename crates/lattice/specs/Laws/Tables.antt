@@ -1,17 +1,23 @@
 -- Tables as linear maps: products, the diagonal, and what makes two tables inverse to each other on a lattice.
-use mathlib.Core.Path.{_≡_, refl, sym, _∙_, ap, ap₂}
+use mathlib.Core.Path.{_≡_, refl, sym, _∙_, ap, ap₂, subst, subst₂}
+use mathlib.Core.Bool.{Bool, true, _&&_}
 use mathlib.Core.List.{List, [], _∷_, map}
-use Prim.Native.Nat.{ℕ, zero, suc, _<_}
+use Prim.Native.Nat.{ℕ, zero, suc, _^_, _<_, _≤_}
 use native.Mathlib.Nat.{suc-inj}
 use native.Mathlib.Omega.{arith}
-use lib.IntN.{ℤ, pos, _+ℤ_, _*ℤ_}
-use lib.ListN.{length}
+use native.Mathlib.Decide.{decLe}
+use borrow.Author.Tests.{eqb-true}
+use lib.Dec.{eqb}
+use lib.IntN.{ℤ, pos, natAbs, _+ℤ_, _*ℤ_}
+use lib.ListN.{length, getD, length-map, List·getD-map, List·getD-eq-default}
+use lib.Seq.{take-all}
 use Rattle.integers.specs.Floor.{floorDiv, floorMod}
 use Rattle.integers.specs.Laws.Difference.{byD, ints, byD₂, byD₃}
 use Rattle.integers.specs.Laws.Floors.{floor-split, floor-unique}
-use Rattle.integers.specs.Laws.Sums.{dot-comm, dot-add, dot-scale, dot-add-r, dot-scale-r, dot-zeros}
-use Rattle.integers.specs.Vectors.{zeros, addV, scaleV, dot}
-use Rattle.lattice.specs.Basis.{apply, comb, times, diag, floors}
+use Rattle.integers.specs.Laws.Sums.{dot-comm, dot-add, dot-scale, dot-add-r, dot-scale-r, dot-zeros, dot-bound, small, sized-small}
+use Rattle.integers.specs.Vectors.{zeros, addV, scaleV, dot, Sized}
+use Rattle.refusals.specs.Laws.Limits.{and-true}
+use Rattle.lattice.specs.Basis.{Table8, apply, comb, times, diag, floors}
 
 pub dot-apply : (r : List ℤ) (B : List (List ℤ)) (c : List ℤ) → dot r (apply B c) ≡ dot (comb r B) c
 dot-apply [] B c = refl
@@ -29,6 +35,28 @@ apply-add (r ∷ B) a b = ap₂ _∷_ (dot-add-r a b r) (apply-add B a b)
 pub apply-scale : (B : List (List ℤ)) (k : ℤ) (a : List ℤ) → apply B (scaleV k a) ≡ scaleV k (apply B a)
 apply-scale [] k a = refl
 apply-scale (r ∷ B) k a = ap₂ _∷_ (dot-scale-r k r a) (apply-scale B k a)
+
+-- a table that the code takes, as a test that computes
+abbrev pub rowsSmall : List (List ℤ) → Bool
+rowsSmall [] = true
+rowsSmall (r ∷ t) = (eqb (length r) 8 && small (2 ^ 4) r) && rowsSmall t
+
+row-at : (t : List (List ℤ)) → rowsSmall t ≡ true → (k : ℕ) → k < length t → Sized 8 (2 ^ 4) (getD t k [])
+row-at [] e k h = absurd (omega arith)
+row-at (r ∷ t) e zero h = let u = and-true (eqb (length r) 8) (small (2 ^ 4) r) (and-true (eqb (length r) 8 && small (2 ^ 4) r) (rowsSmall t) e .0) in sized-small 8 (2 ^ 4) r (eqb-true (length r) 8 (u .0)) (u .1)
+row-at (r ∷ t) e (suc k) h = row-at t (and-true (eqb (length r) 8 && small (2 ^ 4) r) (rowsSmall t) e .1) k (omega arith)
+
+pub table-small : (t : List (List ℤ)) → length t ≡ 8 → rowsSmall t ≡ true → Table8 t
+table-small t h e = record { long = h; rows = λ k l. row-at t e k (omega arith) }
+
+-- a table that the code takes, by a vector that it takes: sums of eight products
+pub apply-sized : (t : List (List ℤ)) (v : List ℤ) → Table8 t → Sized 8 (2 ^ 32) v → Sized 8 (2 ^ 39) (apply t v)
+apply-sized t v h k = record { long = length-map t _ ∙ h .long; small = λ i. subst (λ (z : ℤ). natAbs z ≤ 2 ^ 39) (sym (List·getD-map (λ (r : List ℤ). dot r v) t i [])) (go i (decLe 8 i)) }
+  where
+    go : (i : ℕ) → Dec (8 ≤ i) → natAbs (dot (getD t i []) v) ≤ 2 ^ 39
+    go i (yes l) = rw (List·getD-eq-default t [] {n = i} (omega (arith, h .long))) (omega arith)
+    go i (no l) = let r = h .rows i (omega arith) in
+        subst₂ (λ (a b : List ℤ). natAbs (dot a b) ≤ 2 ^ 39) (take-all 8 (getD t i []) (omega (arith, r .long))) (take-all 8 v (omega (arith, k .long))) (dot-bound (2 ^ 4) (2 ^ 32) (getD t i []) v (r .small) (k .small) 8)
 
 first-step : (k x d : ℤ) → d ≡ pos 0 → k *ℤ x +ℤ d ≡ k *ℤ x
 first-step = byD₃ _ λ _ _ _ _ _ _. simp ints (omega arith)

@@ -7,15 +7,10 @@ use native.Mathlib.Omega.{arith}
 use borrow.Author.Tests.{leb-true}
 use lib.Dec.{leb}
 use lib.IntN.{ℤ, pos, natAbs}
-use lib.Signed.{pos-natAbs, yes-nonNeg}
-use Rattle.integers.specs.Laws.Linear.{abs-parts, Z}
-use Rattle.refusals.specs.Laws.Limits.{and-true, within-true}
-use Rattle.refusals.specs.Limits.{within, qLeast, qMost, mLeast, mMost, powerMost}
+use Rattle.integers.specs.Laws.Tests.{and-true, between}
+use Rattle.integers.specs.Vectors.{within}
+use Rattle.refusals.specs.Limits.{qLeast, qMost, mLeast, mMost, powerMost}
 use Rattle.refusals.specs.Settings.{goodSettings}
-
--- a number between two naturals is a natural between them
-pub between : (a b : ℕ) (x : ℤ) → within (pos a) (pos b) x ≡ true → (pos (natAbs x) ≡ x) × (a ≤ natAbs x) × (natAbs x ≤ b)
-between a b x e = let t = within-true (pos a) (pos b) x e in (pos-natAbs x (yes-nonNeg {z = x} (omega (arith, Z, t .0))), omega (arith, Z, abs-parts x, t .0, t .1), omega (arith, Z, abs-parts x, t .0, t .1))
 
 -- settings within their limits
 pub record Allowed (q m : ℤ) : Type 0 where

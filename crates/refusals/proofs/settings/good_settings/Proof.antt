@@ -9,10 +9,10 @@ use lib.IntN.{ℤ, pos, natAbs}
 use lib.Signed.{yes-nonNeg}
 use mir.Facts.{toZ-ofZ, fits-natAbs}
 use Rattle.integers.specs.Laws.Linear.{Z}
-use Rattle.refusals.specs.Limits.{within}
+use Rattle.integers.specs.Vectors.{within}
 use Rattle.refusals.specs.Settings.{goodSettings}
-use Rattle.refusals.specs.Laws.Limits.{within-true}
-use Rattle.refusals.specs.Laws.Allowed.{between, power-most}
+use Rattle.integers.specs.Laws.Tests.{within-true, between}
+use Rattle.refusals.specs.Laws.Allowed.{power-most}
 use Rattle.refusals.proofs.settings.good_settings.Statement.{statement}
 use Rattle.refusals.proofs.settings.good_settings.Tie as tie
 

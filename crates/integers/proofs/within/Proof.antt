@@ -1,9 +1,9 @@
 -- `within` is its two tests, in turn.
 use mathlib.Core.Bool.{true, false}
 use mir.Facts.{toZ-ofZ}
 use Rattle.integers.specs.Laws.Sizes.{leZ-not}
-use Rattle.refusals.proofs.within.Statement.{statement}
-use Rattle.refusals.proofs.within.Tie as tie
+use Rattle.integers.proofs.within.Statement.{statement}
+use Rattle.integers.proofs.within.Tie as tie
 
 returns : tie.Need-returns
 returns c = let s = c .before in rw (leZ-not (s .args .least) (s .args .x) true (simp (toZ-ofZ, s .fits .x, s .fits .least) at (c .if1 .taken)))
