@@ -2,28 +2,27 @@
 use mathlib.Core.Path.{_≡_, refl, sym, _∙_, ap, ap₂, subst}
 use mathlib.Core.Bool.{Bool, true, false, cond}
 use mathlib.Core.List.{List, [], _∷_, map}
-use Prim.Native.Nat.{ℕ, _+_, _*_, _-_, _^_, _<_, _≤_}
+use Prim.Native.Nat.{ℕ, zero, suc, _+_, _-_, _^_, _<_, _≤_}
 use native.Mathlib.Decide.{decLe}
 use native.Mathlib.Omega.{arith}
 use borrow.Author.Tests.{eqb-true, eqb-false}
 use lib.Dec.{eqb}
-use lib.IntN.{ℤ, pos, negsuc, natAbs, _+ℤ_, _*ℤ_, +ℤ-idr}
+use lib.IntN.{ℤ, pos, negsuc, natAbs, _+ℤ_, _-ℤ_, _*ℤ_, +ℤ-idr}
 use lib.ListN.{length, set}
 use lib.Seq.{set-getD}
 use lib.Signed.{_<ℤ_, ltZ}
-use Rattle.integers.specs.Laws.Sizes.{abs-sub, abs-mul, abs-mul-le}
+use Rattle.integers.specs.Laws.Difference.{ints, byD₄}
 use Rattle.integers.specs.Laws.Sums.{at-map, sized-map}
-use Rattle.integers.specs.Vectors.{«at», sumV, dot, Sized}
+use Rattle.integers.specs.Vectors.{square, «at», sumV, dot, Sized}
 use Rattle.lattice.specs.Computed.{nearestD}
 use Rattle.lattice.specs.Doubled.{par}
 use Rattle.lattice.specs.Laws.Dn.{Summed, nearestD-least}
 use Rattle.lattice.specs.Laws.Least.{Least, least-unique}
-use Rattle.lattice.specs.Laws.Mending.{changed-cost}
 use Rattle.lattice.specs.Laws.Places.{leftAt, place-nearest, place-same}
 use Rattle.lattice.specs.Laws.Reciprocals.{left-small, round-small}
 use Rattle.lattice.specs.Laws.Rounds.{rounds-least}
 use Rattle.lattice.specs.Nearest.{cost}
-use Rattle.lattice.specs.Rounding.{round, left, turn, changed, penalty, Place, Divisor}
+use Rattle.lattice.specs.Rounding.{round, left, turn, rests, changed, Place, Divisor}
 
 module _ (s : ℤ) (S> : pos 0 <ℤ (pos 2 *ℤ s)) (v : List ℤ) (long : length v ≡ 8) (j : ℕ) (p : Place 8 («at» (map (left (pos 2 *ℤ s)) v)) j) where
   abbrev S : ℤ
@@ -61,13 +60,30 @@ module _ (s : ℤ) (S> : pos 0 <ℤ (pos 2 *ℤ s)) (v : List ℤ) (long : lengt
   half-nearest true e = mended-true ∙ place-nearest S S> v j place (eqb-true (par (sumV F)) 1 (sym e))
   half-nearest false e = mended-false ∙ rounds-nearest (odd-or (par (sumV F)) (omega arith) (eqb-false (par (sumV F)) 1 (sym e)))
 
-  norm-cost : (v : List ℤ) → dot (map (left S) v) (map (left S) v) ≡ cost S v (map (round S) v)
-  norm-cost [] = refl
-  norm-cost (x ∷ v) = ap (λ (t : ℤ). left S x *ℤ left S x +ℤ t) (norm-cost v)
+-- ---- what is left of v
 
-  pub half-cost : (b : Bool) → b ≡ eqb (par (sumV F)) 1 → dot R R +ℤ cond b (penalty S (natAbs («at» R j))) (pos 0) ≡ cost S v (nearestD S v)
-  half-cost true e = ap₂ (λ (a z : ℤ). a +ℤ penalty S (natAbs z)) (norm-cost v) (here j (p .within)) ∙ sym (changed-cost S v j (omega (arith, p .within))) ∙ ap (cost S v) (sym mended-true ∙ half-nearest true e)
-  half-cost false e = +ℤ-idr (dot R R) ∙ norm-cost v ∙ ap (cost S v) (sym mended-false ∙ half-nearest false e)
+-- the cost is the sum of squares of what is left
+pub cost-rests : (S : ℤ) (v f : List ℤ) → cost S v f ≡ dot (rests S v f) (rests S v f)
+cost-rests S [] f = refl
+cost-rests S (x ∷ v) [] = refl
+cost-rests S (x ∷ v) (y ∷ f) = ap (λ (t : ℤ). square (x -ℤ S *ℤ y) +ℤ t) (cost-rests S v f)
+
+rests-rounds : (S : ℤ) (v : List ℤ) → rests S v (map (round S) v) ≡ map (left S) v
+rests-rounds S [] = refl
+rests-rounds S (x ∷ v) = ap (λ (r : List ℤ). left S x ∷ r) (rests-rounds S v)
+
+rests-set : (S t : ℤ) (v f : List ℤ) (j : ℕ) → rests S v (set f j («at» f j +ℤ t)) ≡ set (rests S v f) j («at» (rests S v f) j -ℤ S *ℤ t)
+rests-set S t [] f j = refl
+rests-set S t (x ∷ v) [] j = refl
+rests-set S t (x ∷ v) (y ∷ f) zero = ap (λ (z : ℤ). z ∷ rests S v f) (go x S y t)
+  where
+    go : (x S y t : ℤ) → x -ℤ S *ℤ (y +ℤ t) ≡ x -ℤ S *ℤ y -ℤ S *ℤ t
+    go = byD₄ _ λ _ _ _ _ _ _ _ _. simp ints (omega arith)
+rests-set S t (x ∷ v) (y ∷ f) (suc j) = ap (λ (r : List ℤ). (x -ℤ S *ℤ y) ∷ r) (rests-set S t v f j)
+
+-- a step t at one entry takes S t from what is left there
+pub rests-mended : (S t : ℤ) (v : List ℤ) (j : ℕ) → let f = map (round S) v in let r = map (left S) v in rests S v (set f j («at» f j +ℤ t)) ≡ set r j («at» r j -ℤ S *ℤ t)
+rests-mended S t v j = rests-set S t v (map (round S) v) j ∙ ap (λ (r : List ℤ). set r j («at» r j -ℤ S *ℤ t)) (rests-rounds S v)
 
 -- ---- sizes
 
@@ -81,11 +97,3 @@ pub step-small : (b p : Bool) → natAbs (cond b (cond p (pos 1) (negsuc 0)) (po
 step-small true true = omega arith
 step-small true false = omega arith
 step-small false p = omega arith
-
-pub penalty-small : (s : ℤ) → Divisor s → (m : ℕ) → m ≤ 16384 → (b : Bool) → natAbs (cond b (penalty (pos 2 *ℤ s) m) (pos 0)) ≤ 2 ^ 32
-penalty-small s h m l true = let S : ℤ = pos 2 *ℤ s in let k : natAbs S ≤ 32768 = omega (arith, abs-mul (pos 2) s, h .most) in
-    let p : natAbs (S *ℤ S) ≤ 32768 * 32768 = abs-mul-le S S k k in
-    let k₂ : natAbs (pos 2 *ℤ S) ≤ 65536 = omega (arith, abs-mul (pos 2) S) in
-    let q : natAbs (pos 2 *ℤ S *ℤ pos m) ≤ 65536 * 16384 = abs-mul-le (pos 2 *ℤ S) (pos m) k₂ l in
-    omega (arith, abs-sub (S *ℤ S) (pos 2 *ℤ S *ℤ pos m))
-penalty-small s h m l false = omega arith
