@@ -70,12 +70,12 @@ module _ (s : ℤ) (s> : pos 0 <ℤ s) (d : List ℤ) (long : length d ≡ 8) wh
   long-nearest : (v : List ℤ) → length v ≡ 8 → 0 < length (nearestD S v)
   long-nearest v h = omega (arith, nearestD-least S (double-pos s s>) v .member .long)
 
-  -- the nearest point, from the two halves and what they leave
-  pub nearestPoint-code : {f g a b : List ℤ} → f ≡ nearestD S d → g ≡ nearestD S (lower s 1 d) → a ≡ rests S d f → b ≡ rests S (lower s 1 d) g
-      → nearestPoint s d ≡ cond (ahead (dot a a) (dot b b) («at» f 0) («at» g 0)) (spread 0 f) (spread 1 g)
+  -- the nearest point, from the two halves, what they leave and the test t between them
+  pub nearestPoint-code : {f g a b : List ℤ} {t : Bool} → f ≡ nearestD S d → g ≡ nearestD S (lower s 1 d) → a ≡ rests S d f → b ≡ rests S (lower s 1 d) g
+      → t ≡ ahead (dot a a) (dot b b) («at» f 0) («at» g 0) → nearestPoint s d ≡ cond t (spread 0 f) (spread 1 g)
   unfolding nearestPoint nearestHalf
-  nearestPoint-code p q α β = let e = nearestD S d in let o = nearestD S (lower s 1 d) in
-      rw (α, β, p, q, ← cost-rests S d e, ← cost-rests S (lower s 1 d) o)
+  nearestPoint-code p q α β τ = let e = nearestD S d in let o = nearestD S (lower s 1 d) in
+      rw (τ, α, β, p, q, ← cost-rests S d e, ← cost-rests S (lower s 1 d) o)
       (ap (λ (v : List ℤ). lesser (cost s d) (spread 0 (nearestD S v)) (spread 1 o)) (lower-none s d)
       ∙ lesser-two (cost s d) e o (long-nearest d long) (long-nearest (lower s 1 d) (length-map d _ ∙ long))
       ∙ ap₂ (λ (a b : ℤ). cond (ahead a b («at» e 0) («at» o 0)) (spread 0 e) (spread 1 o)) (cost-spread 0 s d e ∙ ap (λ (v : List ℤ). cost S v e) (lower-none s d)) (cost-spread 1 s d o))

@@ -104,8 +104,8 @@ module _ {s : ℤ} {v f r : List ℤ} {j : ℕ} {t : ℤ} (m : Found s v f r j t
   pub mended-rests : set r j («at» r j -ℤ S *ℤ t) ≡ rests S v (set f j («at» f j +ℤ t))
   mended-rests = rw (m .leaves, m .rounded, rests-set S t v (map (round S) v) j, rests-rounds S v)
 
-  -- how large the step and the two entries that it makes are
-  pub step-small : natAbs t ≤ 1
+  -- how large the step, its product and the two entries that it makes are
+  step-small : natAbs t ≤ 1
   step-small = rw (m .step) (go (eqb (par (sumV f)) 1) (ltZ (pos 0) («at» r j)))
     where
       go : (b p : Bool) → natAbs (cond b (cond p (pos 1) (negsuc 0)) (pos 0)) ≤ 1

@@ -103,13 +103,13 @@ reciprocal-small = byPos _ λ n. omega (arith, div-add-mod 4294967296 (2 * suc n
 
 -- the same in the code's terms
 module _ (s x w : ℤ) (h : Divisor s) (k : natAbs x ≤ 2 ^ 30 + 2 ^ 14) (e : w ≡ pos (reciprocal s)) where
-  abbrev pub codeY : ℤ
+  abbrev codeY : ℤ
   codeY = x +ℤ s -ℤ pos 1
 
-  abbrev pub codeZ : ℤ
+  abbrev codeZ : ℤ
   codeZ = codeY *ℤ w -ℤ pos 2147483648
 
-  abbrev pub codeQ : ℤ
+  abbrev codeQ : ℤ
   codeQ = shrZ codeZ 4294967296
 
   pub y-small : natAbs codeY ≤ 2147483648

@@ -1,9 +1,9 @@
--- `nearest_d` finds what `Found` lists, call by call, and mends with it.
+-- `nearest_d` finds what `Found` lists, call by call; the laws of `Mended` say what the two stores then make.
 use borrow.Author.Needs.{needs}
-use mathlib.Core.Path.{_≡_, sym, _∙_, ap, subst}
+use mathlib.Core.Path.{_≡_, _∙_, ap}
 use mathlib.Core.Bool.{Bool, cond}
 use mathlib.Core.List.{List, map}
-use Prim.Native.Nat.{ℕ}
+use Prim.Native.Nat.{ℕ, _^_}
 use native.Mathlib.Omega.{arith}
 use lib.Dec.{eqb}
 use lib.IntN.{ℤ, pos, negsuc, _+ℤ_, _-ℤ_, _*ℤ_}
@@ -20,27 +20,26 @@ use Rattle.lattice.specs.Laws.Reciprocals.{twice}
 use Rattle.lattice.specs.Rounding.{round, left}
 use Rattle.lattice.proofs.half.nearest_d.Statement.{statement}
 use Rattle.lattice.proofs.half.nearest_d.Tie as tie
-use Rattle.lattice.proofs.half.nearest_d.Reads as reads
-use Rattle.lattice.proofs.half.nearest_d.Lts as lts
-use Rattle.lattice.proofs.coordinate.step.Reads as step-reads
-use Rattle.lattice.proofs.half.odd.Reads as odd-reads
-use Rattle.lattice.proofs.half.place.Reads as place-reads
-use Rattle.lattice.proofs.half.rests.Reads as rests-reads
-use Rattle.lattice.proofs.half.rounds.Reads as rounds-reads
-use Rattle.lattice.proofs.half.sum.Reads as sum-reads
-
-rounded : (c : tie.After-rounds) → c .rounds .result ≡ map (round (pos 2 *ℤ c .before .args .s)) (c .before .args .v .now)
-rounded c = simp (toZ-ofZ, c .before .fits .s) at (c .rounds .ensures)
-
-leaves : (c : tie.After-rests) → let b = c .before .before .before in c .rests .result ≡ map (left (pos 2 *ℤ b .args .s)) (b .args .v .now)
-leaves c = simp (toZ-ofZ, c .before .before .before .fits .s) at (c .rests .ensures)
 
 module _ (c : tie.After-rounds) where
-  f-sized : Sized 8 2147483648 (c .rounds .result)
-  f-sized = let b = c .before in subst (Sized 8 2147483648) (sym (rounded c)) (rounds-sized (b .args .s) (b .pre .0) (b .args .v .now) (b .pre .1))
+  abbrev b₀ : tie.Start
+  b₀ = c .before
 
-r-sized : (c : tie.After-rests) → Sized 8 16384 (c .rests .result)
-r-sized c = let b = c .before .before .before in subst (Sized 8 16384) (sym (leaves c)) (lefts-sized (b .args .s) (b .pre .0) (b .args .v .now) (b .pre .1))
+  rounded : c .rounds .result ≡ map (round (pos 2 *ℤ b₀ .args .s)) (b₀ .args .v .now)
+  rounded = simp (toZ-ofZ, b₀ .fits .s) at (c .rounds .ensures)
+
+  f-sized : Sized 8 (2 ^ 31) (c .rounds .result)
+  f-sized = rw rounded (rounds-sized (b₀ .args .s) (b₀ .pre .0) (b₀ .args .v .now) (b₀ .pre .1))
+
+module _ (c : tie.After-rests) where
+  abbrev b₁ : tie.Start
+  b₁ = c .before .before .before
+
+  leaves : c .rests .result ≡ map (left (pos 2 *ℤ b₁ .args .s)) (b₁ .args .v .now)
+  leaves = simp (toZ-ofZ, b₁ .fits .s) at (c .rests .ensures)
+
+  r-sized : Sized 8 (2 ^ 14) (c .rests .result)
+  r-sized = rw leaves (lefts-sized (b₁ .args .s) (b₁ .pre .0) (b₁ .args .v .now) (b₁ .pre .1))
 
 rounds-requires : tie.Need-rounds-requires
 rounds-requires c κs = search needs
@@ -58,7 +57,7 @@ array-copy-out-x : tie.Need-array-copy-out-x
 array-copy-out-x c = search needs
 
 sum-requires : tie.Need-sum-requires
-sum-requires c κs = let a = c .before .before .before .before .before .before in sized-more 8 _ (a .rounds .result) (f-sized a) 4294967296 (omega arith)
+sum-requires c κs = let m = c .before .before .before .before .before .before in sized-more 8 _ (m .rounds .result) (f-sized m) (2 ^ 32) (omega arith)
 
 odd-requires : tie.Need-odd-requires
 odd-requires c κs = search needs
@@ -66,7 +65,7 @@ odd-requires c κs = search needs
 step-requires : tie.Need-step-requires
 step-requires c κs = search needs
 
--- what the calls have made
+-- what the calls have found
 module _ (c : tie.After-step) where
   abbrev placed : tie.After-place
   placed = c .before .before .before .before .before
@@ -103,13 +102,13 @@ module _ (c : tie.After-step) where
       (simp (toZ-ofZ, n) at (c .before .odd .ensures)) ∙ ap (λ (z : ℤ). eqb (par z) 1) (c .before .before .sum .ensures)
 
   found : Found s (b .args .v .now) f r j t
-  found = record {
+  found = let x = fx in record {
     divisor = b .pre .0;
     sized = b .pre .1;
     rounded = rounded made;
     leaves = leaves rested;
     place = placed .place .ensures;
-    step = (let x = fx in simp (toZ-ofZ, x) at (c .step .ensures)) ∙ ap (λ (p : Bool). cond p (cond (ltZ (pos 0) («at» r j)) (pos 1) (negsuc 0)) (pos 0)) odd;
+    step = (simp (toZ-ofZ, x) at (c .step .ensures)) ∙ ap (λ (p : Bool). cond p (cond (ltZ (pos 0) («at» r j)) (pos 1) (negsuc 0)) (pos 0)) odd;
   }
 
   ft : SFits w64 t

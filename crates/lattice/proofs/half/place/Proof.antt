@@ -1,9 +1,8 @@
 -- `place` keeps the greatest key so far; the one of all stands at the place to mend.
 use borrow.Author.Needs.{needs}
-use mathlib.Core.Path.{_≡_, subst}
+use mathlib.Core.Path.{subst}
 use Prim.Native.Nat.{ℕ, _-_, _≤_}
 use native.Mathlib.Omega.{arith}
-use lib.IntN.{ℤ}
 use mir.Syntax.{w64}
 use mir.Val.{SFits}
 use mir.Facts.{toZ-ofZ}
@@ -13,8 +12,6 @@ use Rattle.lattice.specs.Laws.Keys.{Topped, top-first, top-step, top-don
 use Rattle.lattice.specs.Rounding.{Greater}
 use Rattle.lattice.proofs.half.place.Statement.{statement}
 use Rattle.lattice.proofs.half.place.Tie as tie
-use Rattle.lattice.proofs.half.place.Reads as reads
-use Rattle.lattice.proofs.half.place.Lts as lts
 
 abbrev Inv-loop : tie.InvT-loop
 Inv-loop r k₀ i₀ k i = (1 ≤ i) × (i ≤ 8) × Topped r i k

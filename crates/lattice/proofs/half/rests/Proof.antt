@@ -15,8 +15,6 @@ use Rattle.lattice.specs.Laws.Reciprocals.{twice, round-small}
 use Rattle.lattice.specs.Rounding.{round, left}
 use Rattle.lattice.proofs.half.rests.Statement.{statement}
 use Rattle.lattice.proofs.half.rests.Tie as tie
-use Rattle.lattice.proofs.half.rests.Reads as reads
-use Rattle.lattice.proofs.half.rests.Lts as lts
 
 abbrev Inv-loop : tie.InvT-loop
 Inv-loop v f s m r₀ i₀ r i = Filled (left (pos 2 *ℤ toZ w64 s)) 8 v i r

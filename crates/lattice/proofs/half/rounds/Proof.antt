@@ -1,5 +1,5 @@
 -- `rounds` fills its result by the rounding of each entry.
-use mathlib.Core.Path.{_≡_, refl}
+use mathlib.Core.Path.{refl}
 use Prim.Native.Nat.{_-_}
 use native.Mathlib.Omega.{arith}
 use lib.IntN.{ℤ, pos, _*ℤ_}
@@ -12,9 +12,6 @@ use Rattle.integers.specs.Vectors.{«at»}
 use Rattle.lattice.specs.Rounding.{round}
 use Rattle.lattice.proofs.half.rounds.Statement.{statement}
 use Rattle.lattice.proofs.half.rounds.Tie as tie
-use Rattle.lattice.proofs.half.rounds.Reads as reads
-use Rattle.lattice.proofs.half.rounds.Lts as lts
-use Rattle.lattice.proofs.coordinate.round.Reads as round-reads
 
 abbrev Inv-loop : tie.InvT-loop
 Inv-loop v s w r₀ i₀ r i = Filled (round (pos 2 *ℤ toZ w64 s)) 8 v i r

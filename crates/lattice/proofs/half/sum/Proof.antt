@@ -15,8 +15,6 @@ use Rattle.integers.specs.Laws.Sums.{sum-take-suc, sum-bound}
 use Rattle.integers.specs.Vectors.{«at», sumV}
 use Rattle.lattice.proofs.half.sum.Statement.{statement}
 use Rattle.lattice.proofs.half.sum.Tie as tie
-use Rattle.lattice.proofs.half.sum.Reads as reads
-use Rattle.lattice.proofs.half.sum.Lts as lts
 
 abbrev Inv-loop : tie.InvT-loop
 Inv-loop f t₀ i₀ t i = (i ≤ 8) × (toZ w64 t ≡ sumV (take i f))

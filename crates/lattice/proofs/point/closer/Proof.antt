@@ -9,9 +9,6 @@ use Rattle.integers.specs.Vectors.{dot}
 use Rattle.lattice.specs.Rounding.{ahead}
 use Rattle.lattice.proofs.point.closer.Statement.{statement}
 use Rattle.lattice.proofs.point.closer.Tie as tie
-use Rattle.lattice.proofs.point.closer.Reads as reads
-use Rattle.lattice.proofs.point.closer.Lts as lts
-use Rattle.lattice.proofs.point.norm.Reads as norm-reads
 
 norm-requires : tie.Need-norm-requires
 norm-requires c κs = search needs

@@ -1,6 +1,6 @@
 -- `lower` fills its result by each entry less s.
-use mathlib.Core.Path.{_≡_, refl}
-use Prim.Native.Nat.{ℕ, _-_}
+use mathlib.Core.Path.{refl}
+use Prim.Native.Nat.{_-_}
 use native.Mathlib.Omega.{arith}
 use lib.IntN.{ℤ, pos, _-ℤ_, _*ℤ_}
 use mir.Syntax.{w64}
@@ -12,8 +12,6 @@ use Rattle.integers.specs.Vectors.{«at»}
 use Rattle.lattice.specs.Laws.Reciprocals.{less-one}
 use Rattle.lattice.proofs.point.lower.Statement.{statement}
 use Rattle.lattice.proofs.point.lower.Tie as tie
-use Rattle.lattice.proofs.point.lower.Reads as reads
-use Rattle.lattice.proofs.point.lower.Lts as lts
 
 -- an entry lowered
 abbrev low : ℤ → ℤ → ℤ

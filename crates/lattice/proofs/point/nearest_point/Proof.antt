@@ -1,6 +1,6 @@
 -- `nearest_point` takes the closer half: of both halves and what they leave, `nearestPoint-code` says which is the nearest point.
 use borrow.Author.Needs.{needs}
-use mathlib.Core.Path.{_≡_, sym, _∙_, ap, subst}
+use mathlib.Core.Path.{_≡_, sym, _∙_}
 use mathlib.Core.Bool.{Bool, cond}
 use mathlib.Core.List.{List}
 use Prim.Native.Nat.{_+_, _^_}
@@ -11,20 +11,13 @@ use mir.Val.{SFits, toZ, ofZ}
 use mir.Facts.{toZ-ofZ}
 use Rattle.integers.specs.Laws.Sizes.{fits-abs}
 use Rattle.integers.specs.Laws.Sums.{sized-more}
-use Rattle.integers.specs.Vectors.{«at», dot, Sized}
+use Rattle.integers.specs.Vectors.{«at», dot}
 use Rattle.lattice.specs.Computed.{nearestD, spread, lower, nearestPoint}
 use Rattle.lattice.specs.Laws.Choice.{nearestPoint-code, lower-sized}
 use Rattle.lattice.specs.Laws.Reciprocals.{twice-pos}
-use Rattle.lattice.specs.Rounding.{rests, ahead}
+use Rattle.lattice.specs.Rounding.{rests, reciprocal, ahead}
 use Rattle.lattice.proofs.point.nearest_point.Statement.{statement}
 use Rattle.lattice.proofs.point.nearest_point.Tie as tie
-use Rattle.lattice.proofs.point.nearest_point.Reads as reads
-use Rattle.lattice.proofs.point.nearest_point.Lts as lts
-use Rattle.lattice.proofs.coordinate.reciprocal.Reads as reciprocal-reads
-use Rattle.lattice.proofs.half.nearest_d.Reads as nearest-d-reads
-use Rattle.lattice.proofs.point.closer.Reads as closer-reads
-use Rattle.lattice.proofs.point.lower.Reads as lower-reads
-use Rattle.lattice.proofs.point.spread.Reads as spread-reads
 
 reciprocal-requires : tie.Need-reciprocal-requires
 reciprocal-requires c κs = search needs
@@ -32,7 +25,6 @@ reciprocal-requires c κs = search needs
 lower-requires : tie.Need-lower-requires
 lower-requires c κs = search needs
 
--- what a half asks of s and w
 module _ (c : tie.After-lower) where
   abbrev b₀ : tie.Start
   b₀ = c .before .before
@@ -40,16 +32,18 @@ module _ (c : tie.After-lower) where
   fw : SFits w64 (c .before .reciprocal .result)
   fw = record { sfits = c .before .reciprocal .ok }
 
+  w-is : c .before .reciprocal .result ≡ pos (reciprocal (b₀ .args .s))
+  w-is = simp (toZ-ofZ, b₀ .fits .s) at (c .before .reciprocal .ensures)
+
   lowered : c .lower .result ≡ lower (b₀ .args .s) 1 (b₀ .args .d .now)
   lowered = simp (toZ-ofZ, b₀ .fits .s) at (c .lower .ensures)
 
 nearest-d-requires : tie.Need-nearest-d-requires
-nearest-d-requires c κs = let b = b₀ c in
-    simp (toZ-ofZ, b .fits .s, fw c) (b .pre .0, sized-more 8 _ (b .args .d .now) (b .pre .1) (2 ^ 30 + 2 ^ 14) (omega arith), simp (toZ-ofZ, b .fits .s) at (c .before .reciprocal .ensures))
+nearest-d-requires c κs = let b = b₀ c in simp (toZ-ofZ, b .fits .s, fw c) (b .pre .0, sized-more 8 _ (b .args .d .now) (b .pre .1) (2 ^ 30 + 2 ^ 14) (omega arith), w-is c)
 
 nearest-d-requires-2 : tie.Need-nearest-d-requires-2
 nearest-d-requires-2 c κs = let l = c .before .before in let b = b₀ l in
-    simp (toZ-ofZ, b .fits .s, fw l) (b .pre .0, subst (Sized 8 (2 ^ 30 + 2 ^ 14)) (sym (lowered l)) (lower-sized (b .args .s) (b .pre .0) (b .args .d .now) (b .pre .1)), simp (toZ-ofZ, b .fits .s) at (l .before .reciprocal .ensures))
+    simp (toZ-ofZ, b .fits .s, fw l) (b .pre .0, rw (lowered l) (lower-sized (b .args .s) (b .pre .0) (b .args .d .now) (b .pre .1)), w-is l)
 
 array-copy-out-closer : tie.Need-array-copy-out-closer
 array-copy-out-closer c = search needs
@@ -66,7 +60,7 @@ spread-requires c κs = search needs
 spread-requires-2 : tie.Need-spread-requires-2
 spread-requires-2 c κs = search needs
 
--- the choice
+-- the choice between the halves, g and h, of which A and B are left
 module _ (c : tie.After-closer) where
   abbrev o : tie.After-nearest-d2
   o = c .before .before .before .before .before .before .before .before .before
@@ -75,7 +69,7 @@ module _ (c : tie.After-closer) where
   e = o .before .before
 
   abbrev b : tie.Start
-  b = b₀ (e .before)
+  b = e .before .before .before
 
   abbrev s : ℤ
   s = b .args .s
@@ -89,17 +83,23 @@ module _ (c : tie.After-closer) where
   abbrev h : List ℤ
   h = o .nearest-d2 .result .f
 
+  abbrev A : List ℤ
+  A = e .nearest-d .result .rests
+
+  abbrev B : List ℤ
+  B = o .nearest-d2 .result .rests
+
   g-is : g ≡ nearestD (pos 2 *ℤ s) d
   g-is = simp (toZ-ofZ, b .fits .s) at (e .nearest-d .ensures .0)
 
   h-is : h ≡ nearestD (pos 2 *ℤ s) (lower s 1 d)
-  h-is = (simp (toZ-ofZ, b .fits .s) at (o .nearest-d2 .ensures .0)) ∙ ap (nearestD (pos 2 *ℤ s)) (lowered (e .before))
+  h-is = simp (toZ-ofZ, b .fits .s, lowered (e .before)) at (o .nearest-d2 .ensures .0)
 
-  a-is : e .nearest-d .result .rests ≡ rests (pos 2 *ℤ s) d g
-  a-is = simp (toZ-ofZ, b .fits .s) at (e .nearest-d .ensures .1)
+  A-is : A ≡ rests (pos 2 *ℤ s) d g
+  A-is = simp (toZ-ofZ, b .fits .s) at (e .nearest-d .ensures .1)
 
-  b-is : o .nearest-d2 .result .rests ≡ rests (pos 2 *ℤ s) (lower s 1 d) h
-  b-is = (simp (toZ-ofZ, b .fits .s) at (o .nearest-d2 .ensures .1)) ∙ ap (λ (v : List ℤ). rests (pos 2 *ℤ s) v h) (lowered (e .before))
+  B-is : B ≡ rests (pos 2 *ℤ s) (lower s 1 d) h
+  B-is = simp (toZ-ofZ, b .fits .s, lowered (e .before)) at (o .nearest-d2 .ensures .1)
 
   fg : SFits w64 («at» g 0)
   fg = fits-abs _ (omega (arith, e .nearest-d .ensures .2 .small 0))
@@ -107,18 +107,17 @@ module _ (c : tie.After-closer) where
   fh : SFits w64 («at» h 0)
   fh = fits-abs _ (omega (arith, o .nearest-d2 .ensures .2 .small 0))
 
-  tested : c .closer .result ≡ ahead (dot (e .nearest-d .result .rests) (e .nearest-d .result .rests)) (dot (o .nearest-d2 .result .rests) (o .nearest-d2 .result .rests)) (toZ w64 (ofZ w64 («at» g 0))) (toZ w64 (ofZ w64 («at» h 0)))
+  tested : c .closer .result ≡ ahead (dot A A) (dot B B) (toZ w64 (ofZ w64 («at» g 0))) (toZ w64 (ofZ w64 («at» h 0)))
   tested = c .closer .ensures
 
-  chosen : nearestPoint s d ≡ cond (c .closer .result) (spread 0 g) (spread 1 h)
-  chosen = let x = fg in let y = fh in nearestPoint-code s (twice-pos s (b .pre .0 .least) .2) d (b .pre .1 .long) g-is h-is a-is b-is
-      ∙ ap (λ (t : Bool). cond t (spread 0 g) (spread 1 h)) (sym (simp (toZ-ofZ, x, y) at tested))
+  chosen : {t : Bool} → c .closer .result ≡ t → nearestPoint s d ≡ cond t (spread 0 g) (spread 1 h)
+  chosen p = let x = fg in let y = fh in nearestPoint-code s (twice-pos s (b .pre .0 .least) .2) d (b .pre .1 .long) g-is h-is A-is B-is (sym p ∙ simp (toZ-ofZ, x, y) at tested)
 
 returns : tie.Need-returns
-returns c = let k = c .before .before .before in c .spread .ensures ∙ sym (chosen k ∙ ap (λ (t : Bool). cond t (spread 0 (g k)) (spread 1 (h k))) (c .before .before .if1 .taken))
+returns c = rw (chosen (c .before .before .before) (c .before .before .if1 .taken)) (c .spread .ensures)
 
 returns-2 : tie.Need-returns-2
-returns-2 c = let k = c .before .before .before in c .spread2 .ensures ∙ sym (chosen k ∙ ap (λ (t : Bool). cond t (spread 0 (g k)) (spread 1 (h k))) (c .before .before .if1 .left))
+returns-2 c = rw (chosen (c .before .before .before) (c .before .before .if1 .left)) (c .spread2 .ensures)
 
 pub nearest-point-spec : {M : Type 1} → statement M
 nearest-point-spec =

@@ -15,8 +15,6 @@ use Rattle.integers.specs.Laws.Sums.{dot-take-suc, dot-bound}
 use Rattle.integers.specs.Vectors.{«at», dot}
 use Rattle.lattice.proofs.point.norm.Statement.{statement}
 use Rattle.lattice.proofs.point.norm.Tie as tie
-use Rattle.lattice.proofs.point.norm.Reads as reads
-use Rattle.lattice.proofs.point.norm.Lts as lts
 
 abbrev Inv-loop : tie.InvT-loop
 Inv-loop r t₀ i₀ t i = (i ≤ 8) × (toZ w64 t ≡ dot (take i r) (take i r))

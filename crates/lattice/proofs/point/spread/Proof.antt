@@ -1,6 +1,6 @@
 -- `spread` fills its result by twice each entry plus p, which is 0 or 1.
-use mathlib.Core.Path.{_≡_, refl, ap}
-use Prim.Native.Nat.{ℕ, _-_, _^_, _≤_}
+use mathlib.Core.Path.{_≡_, refl}
+use Prim.Native.Nat.{_-_, _^_, _≤_}
 use native.Mathlib.Omega.{arith}
 use lib.IntN.{ℤ, pos, natAbs, _+ℤ_, _*ℤ_}
 use lib.Signed.{pos-natAbs, yes-nonNeg}
@@ -13,8 +13,6 @@ use Rattle.integers.specs.Laws.Sizes.{abs-mul, fits-abs, fits-add, fits-mul}
 use Rattle.integers.specs.Vectors.{«at»}
 use Rattle.lattice.proofs.point.spread.Statement.{statement}
 use Rattle.lattice.proofs.point.spread.Tie as tie
-use Rattle.lattice.proofs.point.spread.Reads as reads
-use Rattle.lattice.proofs.point.spread.Lts as lts
 
 -- an entry spread
 abbrev wide : ℤ → ℤ → ℤ
