@@ -33,10 +33,6 @@ rests S (x ∷ v) (y ∷ f) = (x -ℤ S *ℤ y) ∷ rests S v f
 abbrev pub changed : ℤ → List ℤ → ℕ → List ℤ
 changed S v j = set (map (round S) v) j (turn S («at» v j))
 
--- what a change adds to the cost where m is left, up to sign
-abbrev pub penalty : ℤ → ℕ → ℤ
-penalty S m = S *ℤ S -ℤ pos 2 *ℤ S *ℤ pos m
-
 -- the place to change, where r i is left of the entry i of n: the most, up to sign; of those the first that goes down, or, where all go up, the last
 pub record Place (n : ℕ) (r : ℕ → ℤ) (j : ℕ) : Type 0 where
   pub within : j < n

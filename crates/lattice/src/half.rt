@@ -1,9 +1,9 @@
 // One half of the lattice: the nearest whole vector of even sum to v / 2s.
 ghost use mathlib.Core.Path.{_≡_};
 ghost use mathlib.Core.List.{map};
-ghost use Prim.Native.Nat.{_+_, _^_, _≤_};
+ghost use Prim.Native.Nat.{_+_, _^_};
 ghost use lib.Dec.{eqb};
-ghost use lib.IntN.{pos, natAbs, _*ℤ_};
+ghost use lib.IntN.{pos, _*ℤ_};
 ghost use Rattle.integers.specs.Vectors.{«at», sumV, Sized};
 ghost use Rattle.lattice.specs.Doubled.{par};
 ghost use Rattle.lattice.specs.Computed.{nearestD};

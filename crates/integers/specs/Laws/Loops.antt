@@ -5,17 +5,30 @@ use Prim.Native.Nat.{ℕ, zero, suc, _+_, _<_, _≤_}
 use native.Mathlib.Numerals.{add-one}
 use native.Mathlib.Nat.{suc-inj}
 use native.Mathlib.Omega.{arith}
-use lib.ListN.{length, getD, take, set}
+use lib.ListN.{length, getD, take, set, length-set}
 use lib.Seq.{take-suc, take-suc-set, take-all}
 
 -- a loop that fills r by f of each entry of a: after i turns the first i are right
 module _ {A B : Type 0} (f : A → B) where
-  pub fill-step : (a : List A) (r : List B) (i : ℕ) (d : A) → i < length a → i < length r → take i r ≡ map f (take i a)
+  fill-step : (a : List A) (r : List B) (i : ℕ) (d : A) → i < length a → i < length r → take i r ≡ map f (take i a)
       → take (i + 1) (set r i (f (getD a i d))) ≡ map f (take (i + 1) a)
   fill-step a r i d h k e = rw (add-one i) (take-suc-set r i (f (getD a i d)) k ∙ ap (λ (l : List B). l ++ (f (getD a i d) ∷ [])) e ∙ sym (ap (map f) (take-suc a i d h) ∙ map-append f (take i a) (getD a i d ∷ [])))
 
-  pub fill-done : (a : List A) (r : List B) (n : ℕ) → length a ≤ n → length r ≤ n → take n r ≡ map f (take n a) → r ≡ map f a
+  fill-done : (a : List A) (r : List B) (n : ℕ) → length a ≤ n → length r ≤ n → take n r ≡ map f (take n a) → r ≡ map f a
   fill-done a r n h k e = sym (take-all n r k) ∙ e ∙ ap (map f) (take-all n a h)
+
+-- the same as one state: r has n entries, of which the first i are f of those of a
+pub record Filled {A B : Type 0} (f : A → B) (n : ℕ) (a : List A) (i : ℕ) (r : List B) : Type 0 where
+  pub within : i ≤ n
+  pub long : length r ≡ n
+  pub same : take i r ≡ map f (take i a)
+
+module _ {A B : Type 0} (f : A → B) (n : ℕ) (a : List A) (long : length a ≡ n) where
+  pub filled-more : {i : ℕ} {r : List B} (d : A) (z : B) → z ≡ f (getD a i d) → i < n → Filled f n a i r → Filled f n a (i + 1) (set r i z)
+  filled-more {i} {r} d z e h s = rw e (record { within = omega arith; long = length-set r i _ ∙ s .long; same = fill-step f a r i d (omega arith) (omega (arith, s .long)) (s .same) })
+
+  pub filled-all : {i : ℕ} {r : List B} → n ≤ i → Filled f n a i r → r ≡ map f a
+  filled-all {i} {r} h s = fill-done f a r i (omega arith) (omega (arith, s .long)) (s .same)
 
 -- ---- a list by its entries
 

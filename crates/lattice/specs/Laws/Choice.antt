@@ -10,15 +10,16 @@ use lib.Signed.{_≤ℤ_, _<ℤ_, leZ, ltZ}
 use Rattle.integers.specs.Laws.Difference.{byD, ints, byD₂}
 use Rattle.integers.specs.Laws.Sizes.{abs-sub, abs-mul, leZ-true, leZ-false, ltZ-true, ltZ-false}
 use Rattle.integers.specs.Laws.Sums.{sized-map}
-use Rattle.integers.specs.Vectors.{«at», Sized}
+use Rattle.integers.specs.Vectors.{«at», dot, Sized}
 use Rattle.lattice.specs.Computed.{lesser, nearestD, spread, lower, nearestHalf, nearestPoint}
 use Rattle.lattice.specs.Doubled.{par}
 use Rattle.lattice.specs.Laws.Dn.{nearestD-least}
 use Rattle.lattice.specs.Laws.Halves.{cost-spread, double-pos}
 use Rattle.lattice.specs.Laws.Least.{leV-heads}
+use Rattle.lattice.specs.Laws.Mended.{cost-rests}
 use Rattle.lattice.specs.Laws.Parity.{parities}
 use Rattle.lattice.specs.Nearest.{cost}
-use Rattle.lattice.specs.Rounding.{Divisor, inTurn, ahead}
+use Rattle.lattice.specs.Rounding.{rests, Divisor, inTurn, ahead}
 
 -- 2x against 2y + 1
 heads : (x y : ℤ) → ltZ (pos 2 *ℤ x +ℤ pos 0) (pos 2 *ℤ y +ℤ pos 1) ≡ leZ x y
@@ -66,17 +67,18 @@ module _ (s : ℤ) (s> : pos 0 <ℤ s) (d : List ℤ) (long : length d ≡ 8) wh
   abbrev S : ℤ
   S = pos 2 *ℤ s
 
-  long-best : (v : List ℤ) → length v ≡ 8 → 0 < length (nearestD S v)
-  long-best v h = omega (arith, nearestD-least S (double-pos s s>) v .member .long)
+  long-nearest : (v : List ℤ) → length v ≡ 8 → 0 < length (nearestD S v)
+  long-nearest v h = omega (arith, nearestD-least S (double-pos s s>) v .member .long)
 
-  -- the nearest point, from the two halves and their costs
-  pub nearestPoint-code : nearestPoint s d ≡ cond (ahead (cost S d (nearestD S d)) (cost S (lower s 1 d) (nearestD S (lower s 1 d))) («at» (nearestD S d) 0) («at» (nearestD S (lower s 1 d)) 0))
-      (spread 0 (nearestD S d)) (spread 1 (nearestD S (lower s 1 d)))
+  -- the nearest point, from the two halves, what they leave and the test t between them
+  pub nearestPoint-code : {f g a b : List ℤ} {t : Bool} → f ≡ nearestD S d → g ≡ nearestD S (lower s 1 d) → a ≡ rests S d f → b ≡ rests S (lower s 1 d) g
+      → t ≡ ahead (dot a a) (dot b b) («at» f 0) («at» g 0) → nearestPoint s d ≡ cond t (spread 0 f) (spread 1 g)
   unfolding nearestPoint nearestHalf
-  nearestPoint-code = let e = nearestD S d in let o = nearestD S (lower s 1 d) in
-      ap (λ (v : List ℤ). lesser (cost s d) (spread 0 (nearestD S v)) (spread 1 o)) (lower-none s d)
-      ∙ lesser-two (cost s d) e o (long-best d long) (long-best (lower s 1 d) (length-map d _ ∙ long))
-      ∙ ap₂ (λ (a b : ℤ). cond (ahead a b («at» e 0) («at» o 0)) (spread 0 e) (spread 1 o)) (cost-spread 0 s d e ∙ ap (λ (v : List ℤ). cost S v e) (lower-none s d)) (cost-spread 1 s d o)
+  nearestPoint-code p q α β τ = let e = nearestD S d in let o = nearestD S (lower s 1 d) in
+      rw (τ, α, β, p, q, ← cost-rests S d e, ← cost-rests S (lower s 1 d) o)
+      (ap (λ (v : List ℤ). lesser (cost s d) (spread 0 (nearestD S v)) (spread 1 o)) (lower-none s d)
+      ∙ lesser-two (cost s d) e o (long-nearest d long) (long-nearest (lower s 1 d) (length-map d _ ∙ long))
+      ∙ ap₂ (λ (a b : ℤ). cond (ahead a b («at» e 0) («at» o 0)) (spread 0 e) (spread 1 o)) (cost-spread 0 s d e ∙ ap (λ (v : List ℤ). cost S v e) (lower-none s d)) (cost-spread 1 s d o))
 
 pub lower-sized : (s : ℤ) → Divisor s → (d : List ℤ) → Sized 8 (2 ^ 30) d → Sized 8 (2 ^ 30 + 2 ^ 14) (lower s 1 d)
 lower-sized s h d k = sized-map 8 _ d k (λ (x : ℤ). x -ℤ s *ℤ pos 1) (2 ^ 30 + 2 ^ 14) (λ x l. omega (arith, abs-sub x (s *ℤ pos 1), abs-mul s (pos 1), h .most))

@@ -1,91 +1,135 @@
--- One half of the lattice as the code finds it: rounded, mended, its cost, and the sizes on the way.
-use mathlib.Core.Path.{_≡_, refl, sym, _∙_, ap, ap₂, subst}
+-- One half of the lattice as the code finds it: rounded, one entry mended where the sum is odd, and what that leaves.
+use mathlib.Core.Path.{_≡_, refl, _∙_, ap, ap₂, subst}
 use mathlib.Core.Bool.{Bool, true, false, cond}
 use mathlib.Core.List.{List, [], _∷_, map}
-use Prim.Native.Nat.{ℕ, _+_, _*_, _-_, _^_, _<_, _≤_}
-use native.Mathlib.Decide.{decLe}
+use Prim.Native.Nat.{ℕ, zero, suc, _+_, _^_, _<_, _≤_}
 use native.Mathlib.Omega.{arith}
+use native.Mathlib.Decide.{decLe}
 use borrow.Author.Tests.{eqb-true, eqb-false}
 use lib.Dec.{eqb}
-use lib.IntN.{ℤ, pos, negsuc, natAbs, _+ℤ_, _*ℤ_, +ℤ-idr}
-use lib.ListN.{length, set}
+use lib.IntN.{ℤ, pos, negsuc, natAbs, _+ℤ_, _-ℤ_, _*ℤ_, +ℤ-idr}
+use lib.ListN.{set}
 use lib.Seq.{set-getD}
 use lib.Signed.{_<ℤ_, ltZ}
-use Rattle.integers.specs.Laws.Sizes.{abs-sub, abs-mul, abs-mul-le}
-use Rattle.integers.specs.Laws.Sums.{at-map, sized-map}
-use Rattle.integers.specs.Vectors.{«at», sumV, dot, Sized}
+use Rattle.integers.specs.Laws.Difference.{ints, byD₄}
+use Rattle.integers.specs.Laws.Sizes.{abs-add, abs-sub, abs-mul, abs-mul-le}
+use Rattle.integers.specs.Laws.Sums.{at-map, sized-map, sized-set}
+use Rattle.integers.specs.Vectors.{square, «at», sumV, dot, Sized}
 use Rattle.lattice.specs.Computed.{nearestD}
 use Rattle.lattice.specs.Doubled.{par}
 use Rattle.lattice.specs.Laws.Dn.{Summed, nearestD-least}
 use Rattle.lattice.specs.Laws.Least.{Least, least-unique}
-use Rattle.lattice.specs.Laws.Mending.{changed-cost}
-use Rattle.lattice.specs.Laws.Places.{leftAt, place-nearest, place-same}
-use Rattle.lattice.specs.Laws.Reciprocals.{left-small, round-small}
+use Rattle.lattice.specs.Laws.Places.{place-nearest, place-same}
+use Rattle.lattice.specs.Laws.Reciprocals.{twice-pos, left-small, round-small}
 use Rattle.lattice.specs.Laws.Rounds.{rounds-least}
 use Rattle.lattice.specs.Nearest.{cost}
-use Rattle.lattice.specs.Rounding.{round, left, turn, changed, penalty, Place, Divisor}
+use Rattle.lattice.specs.Rounding.{round, left, turn, rests, Place, Divisor}
 
-module _ (s : ℤ) (S> : pos 0 <ℤ (pos 2 *ℤ s)) (v : List ℤ) (long : length v ≡ 8) (j : ℕ) (p : Place 8 («at» (map (left (pos 2 *ℤ s)) v)) j) where
+-- ---- what is left of v after S times f
+
+-- the cost is its sum of squares
+pub cost-rests : (S : ℤ) (v f : List ℤ) → cost S v f ≡ dot (rests S v f) (rests S v f)
+cost-rests S [] f = refl
+cost-rests S (x ∷ v) [] = refl
+cost-rests S (x ∷ v) (y ∷ f) = ap (λ (t : ℤ). square (x -ℤ S *ℤ y) +ℤ t) (cost-rests S v f)
+
+rests-rounds : (S : ℤ) (v : List ℤ) → rests S v (map (round S) v) ≡ map (left S) v
+rests-rounds S [] = refl
+rests-rounds S (x ∷ v) = ap (λ (r : List ℤ). left S x ∷ r) (rests-rounds S v)
+
+-- a step t at one entry takes S t from what is left there
+rests-set : (S t : ℤ) (v f : List ℤ) (j : ℕ) → rests S v (set f j («at» f j +ℤ t)) ≡ set (rests S v f) j («at» (rests S v f) j -ℤ S *ℤ t)
+rests-set S t [] f j = refl
+rests-set S t (x ∷ v) [] j = refl
+rests-set S t (x ∷ v) (y ∷ f) zero = ap (λ (z : ℤ). z ∷ rests S v f) (go x S y t)
+  where
+    go : (x S y t : ℤ) → x -ℤ S *ℤ (y +ℤ t) ≡ x -ℤ S *ℤ y -ℤ S *ℤ t
+    go = byD₄ _ λ _ _ _ _ _ _ _ _. simp ints (omega arith)
+rests-set S t (x ∷ v) (y ∷ f) (suc j) = ap (λ (r : List ℤ). (x -ℤ S *ℤ y) ∷ r) (rests-set S t v f j)
+
+-- ---- the sizes of the entries
+
+module _ (s : ℤ) (h : Divisor s) (v : List ℤ) (k : Sized 8 (2 ^ 30 + 2 ^ 14) v) where
+  pub rounds-sized : Sized 8 (2 ^ 31) (map (round (pos 2 *ℤ s)) v)
+  rounds-sized = sized-map 8 _ v k (round (pos 2 *ℤ s)) (2 ^ 31) (λ x l. omega (arith, round-small s h x))
+
+  pub lefts-sized : Sized 8 (2 ^ 14) (map (left (pos 2 *ℤ s)) v)
+  lefts-sized = sized-map 8 _ v k (left (pos 2 *ℤ s)) (2 ^ 14) (λ x l. omega (arith, left-small s h x, h .most))
+
+-- ---- the mended half
+
+-- what the code has found: v rounded to f, what that leaves r, the place j to mend, and the step t there, 0 where the sum is even
+pub record Found (s : ℤ) (v f r : List ℤ) (j : ℕ) (t : ℤ) : Type 0 where
+  pub divisor : Divisor s
+  pub sized : Sized 8 (2 ^ 30 + 2 ^ 14) v
+  pub rounded : f ≡ map (round (pos 2 *ℤ s)) v
+  pub leaves : r ≡ map (left (pos 2 *ℤ s)) v
+  pub place : Place 8 («at» r) j
+  pub step : t ≡ cond (eqb (par (sumV f)) 1) (cond (ltZ (pos 0) («at» r j)) (pos 1) (negsuc 0)) (pos 0)
+
+module _ {s : ℤ} {v f r : List ℤ} {j : ℕ} {t : ℤ} (m : Found s v f r j t) where
   abbrev S : ℤ
   S = pos 2 *ℤ s
 
-  abbrev F : List ℤ
-  F = map (round S) v
+  S> : pos 0 <ℤ S
+  S> = twice-pos s (m .divisor .least) .1
 
-  abbrev R : List ℤ
-  R = map (left S) v
+  f-at : (i : ℕ) → i < 8 → «at» f i ≡ round S («at» v i)
+  f-at i h = ap (λ (g : List ℤ). «at» g i) (m .rounded) ∙ at-map (round S) v i (omega (arith, m .sized .long))
 
-  here : (i : ℕ) → i < 8 → «at» R i ≡ left S («at» v i)
-  here i h = at-map (left S) v i (omega arith)
+  r-at : (i : ℕ) → i < 8 → «at» r i ≡ left S («at» v i)
+  r-at i h = ap (λ (g : List ℤ). «at» g i) (m .leaves) ∙ at-map (left S) v i (omega (arith, m .sized .long))
 
-  place : Place (length v) (leftAt S v) j
-  place = rw long (place-same here p)
+  odd-nearest : par (sumV f) ≡ 1 → set f j («at» f j +ℤ cond (ltZ (pos 0) («at» r j)) (pos 1) (negsuc 0)) ≡ nearestD S v
+  unfolding turn
+  odd-nearest e = ap₂ (λ (a z : ℤ). set f j (a +ℤ cond (ltZ (pos 0) z) (pos 1) (negsuc 0))) (f-at j (m .place .within)) (r-at j (m .place .within))
+      ∙ ap (λ (g : List ℤ). set g j (turn S («at» v j))) (m .rounded)
+      ∙ place-nearest S S> v j (rw (m .sized .long) (place-same r-at (m .place))) (rw (m .rounded) at e)
 
-  rounds-nearest : par (sumV F) ≡ 0 → F ≡ nearestD S v
-  rounds-nearest e = least-unique (subst (λ (n : ℕ). Least (Summed n v) (cost S v) F) e (rounds-least S S> v)) (nearestD-least S S> v)
+  even-nearest : par (sumV f) ≡ 0 → set f j («at» f j +ℤ pos 0) ≡ nearestD S v
+  even-nearest e = ap (set f j) (+ℤ-idr («at» f j)) ∙ set-getD f j (pos 0) ∙ m .rounded
+      ∙ least-unique (subst (λ (n : ℕ). Least (Summed n v) (cost S v) (map (round S) v)) (rw (m .rounded) at e) (rounds-least S S> v)) (nearestD-least S S> v)
 
   odd-or : (n : ℕ) → n < 2 → (n ≡ 1 → ⊥) → n ≡ 0
   odd-or n l h = elim (decLe n 0) [ yes k ↦ omega arith | no k ↦ absurd (h (omega arith)) ]
 
-  abbrev mended : Bool → List ℤ
-  mended b = set F j («at» F j +ℤ cond b (cond (ltZ (pos 0) («at» R j)) (pos 1) (negsuc 0)) (pos 0))
+  -- it is the nearest whole vector of even sum
+  pub mended-nearest : set f j («at» f j +ℤ t) ≡ nearestD S v
+  mended-nearest = rw (m .step) (go (eqb (par (sumV f)) 1) refl)
+    where
+      go : (b : Bool) → eqb (par (sumV f)) 1 ≡ b → set f j («at» f j +ℤ cond b (cond (ltZ (pos 0) («at» r j)) (pos 1) (negsuc 0)) (pos 0)) ≡ nearestD S v
+      go true e = odd-nearest (eqb-true (par (sumV f)) 1 e)
+      go false e = even-nearest (odd-or (par (sumV f)) (omega arith) (eqb-false (par (sumV f)) 1 e))
 
-  mended-true : mended true ≡ changed S v j
-  unfolding turn
-  mended-true = ap₂ (λ (a z : ℤ). set F j (a +ℤ cond (ltZ (pos 0) z) (pos 1) (negsuc 0))) (at-map (round S) v j (omega (arith, p .within))) (here j (p .within))
+  pub mended-rests : set r j («at» r j -ℤ S *ℤ t) ≡ rests S v (set f j («at» f j +ℤ t))
+  mended-rests = rw (m .leaves, m .rounded, rests-set S t v (map (round S) v) j, rests-rounds S v)
 
-  mended-false : mended false ≡ F
-  mended-false = ap (set F j) (+ℤ-idr («at» F j)) ∙ set-getD F j (pos 0)
+  -- how large the step, its product and the two entries that it makes are
+  step-small : natAbs t ≤ 1
+  step-small = rw (m .step) (go (eqb (par (sumV f)) 1) (ltZ (pos 0) («at» r j)))
+    where
+      go : (b p : Bool) → natAbs (cond b (cond p (pos 1) (negsuc 0)) (pos 0)) ≤ 1
+      go true true = omega arith
+      go true false = omega arith
+      go false p = omega arith
 
-  pub half-nearest : (b : Bool) → b ≡ eqb (par (sumV F)) 1 → mended b ≡ nearestD S v
-  half-nearest true e = mended-true ∙ place-nearest S S> v j place (eqb-true (par (sumV F)) 1 (sym e))
-  half-nearest false e = mended-false ∙ rounds-nearest (odd-or (par (sumV F)) (omega arith) (eqb-false (par (sumV F)) 1 (sym e)))
+  f-sized : Sized 8 (2 ^ 31) f
+  f-sized = rw (m .rounded) (rounds-sized s (m .divisor) v (m .sized))
 
-  norm-cost : (v : List ℤ) → dot (map (left S) v) (map (left S) v) ≡ cost S v (map (round S) v)
-  norm-cost [] = refl
-  norm-cost (x ∷ v) = ap (λ (t : ℤ). left S x *ℤ left S x +ℤ t) (norm-cost v)
+  r-sized : Sized 8 (2 ^ 14) r
+  r-sized = rw (m .leaves) (lefts-sized s (m .divisor) v (m .sized))
 
-  pub half-cost : (b : Bool) → b ≡ eqb (par (sumV F)) 1 → dot R R +ℤ cond b (penalty S (natAbs («at» R j))) (pos 0) ≡ cost S v (nearestD S v)
-  half-cost true e = ap₂ (λ (a z : ℤ). a +ℤ penalty S (natAbs z)) (norm-cost v) (here j (p .within)) ∙ sym (changed-cost S v j (omega (arith, p .within))) ∙ ap (cost S v) (sym mended-true ∙ half-nearest true e)
-  half-cost false e = +ℤ-idr (dot R R) ∙ norm-cost v ∙ ap (cost S v) (sym mended-false ∙ half-nearest false e)
+  pub entry-small : natAbs («at» f j +ℤ t) ≤ 2 ^ 32
+  entry-small = omega (arith, abs-add («at» f j) t, f-sized .small j, step-small)
 
--- ---- sizes
+  pub product-small : natAbs (S *ℤ t) ≤ 2 ^ 15
+  product-small = omega (arith, abs-mul-le S t {m = 2 ^ 15} {n = 1} (omega (arith, abs-mul (pos 2) s, m .divisor .most)) step-small)
 
-pub rounds-sized : (s : ℤ) → Divisor s → (v : List ℤ) → Sized 8 (2 ^ 30 + 2 ^ 14) v → Sized 8 (2 ^ 32 - 1) (map (round (pos 2 *ℤ s)) v)
-rounds-sized s h v k = sized-map 8 _ v k (round (pos 2 *ℤ s)) (2 ^ 32 - 1) (λ x l. omega (arith, round-small s h x))
+  pub rest-small : natAbs («at» r j -ℤ S *ℤ t) ≤ 2 ^ 16
+  rest-small = omega (arith, abs-sub («at» r j) (S *ℤ t), r-sized .small j, product-small)
 
-pub lefts-sized : (s : ℤ) → Divisor s → (v : List ℤ) → Sized 8 (2 ^ 30 + 2 ^ 14) v → Sized 8 (2 ^ 14) (map (left (pos 2 *ℤ s)) v)
-lefts-sized s h v k = sized-map 8 _ v k (left (pos 2 *ℤ s)) 16384 (λ x l. omega (arith, left-small s h x, h .most))
+  pub mended-sized : Sized 8 (2 ^ 32) (set f j («at» f j +ℤ t))
+  mended-sized = sized-set 8 (2 ^ 31) f f-sized (2 ^ 32) (omega arith) j _ entry-small
 
-pub step-small : (b p : Bool) → natAbs (cond b (cond p (pos 1) (negsuc 0)) (pos 0)) ≤ 1
-step-small true true = omega arith
-step-small true false = omega arith
-step-small false p = omega arith
-
-pub penalty-small : (s : ℤ) → Divisor s → (m : ℕ) → m ≤ 16384 → (b : Bool) → natAbs (cond b (penalty (pos 2 *ℤ s) m) (pos 0)) ≤ 2 ^ 32
-penalty-small s h m l true = let S : ℤ = pos 2 *ℤ s in let k : natAbs S ≤ 32768 = omega (arith, abs-mul (pos 2) s, h .most) in
-    let p : natAbs (S *ℤ S) ≤ 32768 * 32768 = abs-mul-le S S k k in
-    let k₂ : natAbs (pos 2 *ℤ S) ≤ 65536 = omega (arith, abs-mul (pos 2) S) in
-    let q : natAbs (pos 2 *ℤ S *ℤ pos m) ≤ 65536 * 16384 = abs-mul-le (pos 2 *ℤ S) (pos m) k₂ l in
-    omega (arith, abs-sub (S *ℤ S) (pos 2 *ℤ S *ℤ pos m))
-penalty-small s h m l false = omega arith
+  pub rests-sized : Sized 8 (2 ^ 16) (set r j («at» r j -ℤ S *ℤ t))
+  rests-sized = sized-set 8 (2 ^ 14) r r-sized (2 ^ 16) (omega arith) j _ rest-small

@@ -21,7 +21,11 @@ use Rattle.lattice.specs.Laws.Least.{Least, Tests, least-left, least-rig
 use Rattle.lattice.specs.Laws.Parity.{par-add, Mid}
 use Rattle.lattice.specs.Laws.Rounds.{rounds-least, turn-cases, round-is-mid, turn-is-mid}
 use Rattle.lattice.specs.Nearest.{cost}
-use Rattle.lattice.specs.Rounding.{round, left, turn, changed, penalty}
+use Rattle.lattice.specs.Rounding.{round, left, turn, changed}
+
+-- what a change adds to the cost where m is left, up to sign
+abbrev penalty : ℤ → ℕ → ℤ
+penalty S m = S *ℤ S -ℤ pos 2 *ℤ S *ℤ pos m
 
 -- whether a change where r is left comes before a later one where m is left, up to sign
 abbrev pub wins : ℤ → ℕ → Bool

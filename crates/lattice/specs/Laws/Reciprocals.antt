@@ -1,10 +1,9 @@
 -- The numbers that the code computes for one coordinate: the reciprocal, its guess, the rounding, what is left.
 use mathlib.Core.Path.{_≡_, refl, _∙_, ap}
 use mathlib.Core.Bool.{Bool, true, false, cond}
-use Prim.Native.Nat.{ℕ, zero, suc, _+_, _*_, _/_, _%_, _^_, _<_, _≤_}
-use native.Mathlib.Nat.{mul-le-mul, le-refl, div-add-mod, mod-lt, not-suc-le-zero}
+use Prim.Native.Nat.{ℕ, suc, _+_, _*_, _/_, _%_, _^_, _<_, _≤_}
+use native.Mathlib.Nat.{mul-le-mul, le-refl, div-add-mod, mod-lt}
 use native.Mathlib.Omega.{arith}
-use lib.Dec.{leb→le}
 use lib.IntN.{ℤ, pos, negsuc, negℤ, natAbs, _+ℤ_, _-ℤ_, _*ℤ_}
 use lib.Signed.{_≤ℤ_, _<ℤ_, leZ, quotZ, shrZ}
 use Rattle.integers.specs.Floor.{floorDiv, floorMod}
@@ -13,7 +12,7 @@ use Rattle.integers.specs.Laws.Floors.{floorMod-lt, floor-split, floorDiv-shr, 
 use Rattle.integers.specs.Laws.Signed.{slack<, trichotomy}
 use Rattle.integers.specs.Laws.Sizes.{abs-add, abs-sub, abs-mul, leZ-true, leZ-false}
 use Rattle.lattice.specs.Laws.Rounds.{round-rest}
-use Rattle.lattice.specs.Rounding.{round, left, penalty, Divisor, reciprocal}
+use Rattle.lattice.specs.Rounding.{round, left, Divisor, reciprocal}
 
 pub twice : (s : ℤ) → s +ℤ s ≡ pos 2 *ℤ s
 twice = byD _ λ _ _. simp ints (omega arith)
@@ -104,13 +103,13 @@ reciprocal-small = byPos _ λ n. omega (arith, div-add-mod 4294967296 (2 * suc n
 
 -- the same in the code's terms
 module _ (s x w : ℤ) (h : Divisor s) (k : natAbs x ≤ 2 ^ 30 + 2 ^ 14) (e : w ≡ pos (reciprocal s)) where
-  abbrev pub codeY : ℤ
+  abbrev codeY : ℤ
   codeY = x +ℤ s -ℤ pos 1
 
-  abbrev pub codeZ : ℤ
+  abbrev codeZ : ℤ
   codeZ = codeY *ℤ w -ℤ pos 2147483648
 
-  abbrev pub codeQ : ℤ
+  abbrev codeQ : ℤ
   codeQ = shrZ codeZ 4294967296
 
   pub y-small : natAbs codeY ≤ 2147483648
@@ -138,22 +137,3 @@ zero-less = byD _ λ _ _. simp (ints, abs-D) (omega arith)
 
 pub zero-less-pos : (x : ℤ) → x ≤ℤ pos 0 → pos 0 ≤ℤ (pos 0 -ℤ x)
 zero-less-pos = byD _ λ _ _. simp ints (omega arith)
-
--- what a change adds to the cost, as the code computes it
-pub pen-up : (s x : ℤ) → pos 0 <ℤ x → pos 4 *ℤ s *ℤ (s -ℤ x) ≡ penalty (pos 2 *ℤ s) (natAbs x)
-pen-up s (pos n) h = go n s
-  where
-    go : (n : ℕ) (s : ℤ) → pos 4 *ℤ s *ℤ (s -ℤ pos n) ≡ penalty (pos 2 *ℤ s) n
-    go n = byD _ λ _ _. simp ints (omega arith)
-pen-up s (negsuc n) h = absurd (h .lt)
-
-pub pen-down : (s x : ℤ) → x ≤ℤ pos 0 → pos 4 *ℤ s *ℤ (s +ℤ x) ≡ penalty (pos 2 *ℤ s) (natAbs x)
-pen-down s (pos zero) h = go s
-  where
-    go : (s : ℤ) → pos 4 *ℤ s *ℤ (s +ℤ pos 0) ≡ penalty (pos 2 *ℤ s) 0
-    go = byD _ λ _ _. simp ints (omega arith)
-pen-down s (pos (suc n)) h = absurd (not-suc-le-zero (leb→le (suc n) 0 (h .le)))
-pen-down s (negsuc n) h = go n s
-  where
-    go : (n : ℕ) (s : ℤ) → pos 4 *ℤ s *ℤ (s +ℤ negsuc n) ≡ penalty (pos 2 *ℤ s) (suc n)
-    go n = byD _ λ _ _. simp ints (omega arith)

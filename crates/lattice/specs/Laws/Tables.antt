@@ -14,9 +14,9 @@ use lib.Seq.{take-all}
 use Rattle.integers.specs.Floor.{floorDiv, floorMod}
 use Rattle.integers.specs.Laws.Difference.{byD, ints, byD₂, byD₃}
 use Rattle.integers.specs.Laws.Floors.{floor-split, floor-unique}
-use Rattle.integers.specs.Laws.Sums.{dot-comm, dot-add, dot-scale, dot-add-r, dot-scale-r, dot-zeros, dot-bound, small, sized-small}
-use Rattle.integers.specs.Vectors.{zeros, addV, scaleV, dot, Sized}
-use Rattle.refusals.specs.Laws.Limits.{and-true}
+use Rattle.integers.specs.Laws.Sums.{dot-comm, dot-add, dot-scale, dot-add-r, dot-scale-r, dot-zeros, dot-bound}
+use Rattle.integers.specs.Laws.Tests.{and-true, sized-small}
+use Rattle.integers.specs.Vectors.{zeros, addV, scaleV, dot, Sized, small}
 use Rattle.lattice.specs.Basis.{Table8, apply, comb, times, diag, floors}
 
 pub dot-apply : (r : List ℤ) (B : List (List ℤ)) (c : List ℤ) → dot r (apply B c) ≡ dot (comb r B) c

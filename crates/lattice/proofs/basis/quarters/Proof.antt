@@ -1,10 +1,9 @@
 -- `quarters` shifts each entry right by two places, which divides by 4 and rounds down: after i turns the first i are right.
-use mathlib.Core.Path.{_≡_, refl}
+use mathlib.Core.Path.{refl}
 use mathlib.Core.List.{List}
-use Prim.Native.Nat.{ℕ, _-_, _≤_}
+use Prim.Native.Nat.{ℕ, _-_}
 use native.Mathlib.Omega.{arith}
 use lib.IntN.{ℤ, pos}
-use lib.ListN.{length, take, length-set}
 use lib.Signed.{shrZ, mag-shr}
 use mir.Syntax.{w64}
 use mir.Val.{SFits}
@@ -13,13 +12,12 @@ use Rattle.integers.specs.Floor.{floorDiv}
 use Rattle.integers.specs.Vectors.{«at»}
 use Rattle.integers.specs.Laws.Sizes.{fits-abs}
 use Rattle.integers.specs.Laws.Floors.{floorDiv-shr}
-use Rattle.integers.specs.Laws.Loops.{fill-step, fill-done}
-use Rattle.lattice.specs.Basis.{floors}
+use Rattle.integers.specs.Laws.Loops.{Filled, filled-more, filled-all}
 use Rattle.lattice.proofs.basis.quarters.Statement.{statement}
 use Rattle.lattice.proofs.basis.quarters.Tie as tie
 
 abbrev Inv-loop : tie.InvT-loop
-Inv-loop a r₀ i₀ r i = (i ≤ 8) × (length r ≡ 8) × (take i r ≡ floors 4 (take i a))
+Inv-loop a r₀ i₀ r i = Filled (λ (z : ℤ). floorDiv z 4) 8 a i r
 
 abbrev μ-loop : tie.MeasureT-loop
 μ-loop a r₀ i₀ r i = 8 - i
@@ -38,7 +36,7 @@ module _ (l : tie.In-loop Inv-loop μ-loop) where
   fq = record { sfits = omega (arith, mag-shr x 4, fx .sfits) }
 
 loop-holds : tie.Need-loop-holds Inv-loop μ-loop
-loop-holds c = (omega arith, refl, refl)
+loop-holds c = record { within = omega arith; long = refl; same = refl }
 
 mul-r : tie.Need-mul-r Inv-loop μ-loop
 mul-r c = omega arith
@@ -59,14 +57,11 @@ loop-less : tie.Need-loop-less Inv-loop μ-loop
 loop-less c = omega arith
 
 loop-again : tie.Need-loop-again Inv-loop μ-loop
-loop-again c = let l = c .before in let b = l .before .before in let i = l .before .loop .i in (
-  omega arith,
-  simp length-set (l .before .loop .inv .1),
-  simp (toZ-ofZ, fx l, fq l) (rw (floorDiv-shr (x l) 4) (fill-step (λ (z : ℤ). floorDiv z 4) (a l) (l .before .loop .r) i (pos 0) (omega (arith, b .pre .long)) (omega arith) (l .before .loop .inv .2))),
-)
+loop-again c = let l = c .before in let b = l .before .before in
+    simp (toZ-ofZ, fx l, fq l) (filled-more (λ (z : ℤ). floorDiv z 4) 8 (a l) (b .pre .long) (pos 0) (shrZ (x l) 4) (floorDiv-shr (x l) 4) (c .before .loop-test .taken) (l .before .loop .inv))
 
 returns : tie.Need-returns Inv-loop μ-loop
-returns c = let b = c .before .before in fill-done (λ (z : ℤ). floorDiv z 4) (b .args .a .now) (c .before .loop .r) (c .before .loop .i) (omega (arith, b .pre .long)) (omega arith) (c .before .loop .inv .2)
+returns c = let b = c .before .before in filled-all (λ (z : ℤ). floorDiv z 4) 8 (b .args .a .now) (b .pre .long) (omega arith) (c .before .loop .inv)
 
 pub quarters-spec : {M : Type 1} → statement M
 quarters-spec =
