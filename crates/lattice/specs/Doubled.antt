@@ -1,10 +1,13 @@
 -- The lattices, held doubled so that every coordinate is whole (01, The lattice).
 use mathlib.Core.Path.{_≡_}
 use mathlib.Core.Logic.{_⊎_}
+use mathlib.Core.Bool.{Bool, _&&_}
 use mathlib.Core.List.{List, [], _∷_}
-use Prim.Native.Nat.{ℕ, _%_}
+use Prim.Native.Nat.{ℕ, _+_, _%_}
+use lib.Dec.{eqb}
 use lib.IntN.{ℤ, natAbs}
 use lib.ListN.{length}
+use Rattle.integers.specs.Floor.{floorMod}
 use Rattle.integers.specs.Vectors.{sumV}
 
 -- 0 of an even number, 1 of an odd one
@@ -35,3 +38,14 @@ E8 = Doubled 8
 -- D4 doubled: four even numbers with a sum divisible by 4
 abbrev pub D4 : List ℤ → Type 0
 D4 = Half 0 4
+
+-- ---- membership of E8 as a test
+
+-- how many entries are odd
+abbrev pub odds : List ℤ → ℕ
+odds [] = 0
+odds (x ∷ e) = par x + odds e
+
+-- eight numbers, none or all of them odd, with a sum divisible by 4
+unfoldable pub isPoint : List ℤ → Bool
+isPoint e = eqb (length e) 8 && (eqb (odds e % 8) 0 && eqb (floorMod (sumV e) 4) 0)

@@ -5,6 +5,7 @@ pub mod Dn
 pub mod Halves
 pub mod Moves
 pub mod Close
+pub mod Member
 pub mod Theorems
 pub mod Tables
 pub mod Rows

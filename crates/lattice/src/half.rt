@@ -39,7 +39,7 @@ fn rests(v: &[i64; 8], f: &[i64; 8], s: i64) -> [i64; 8]
     r
 }
 
-fn sum(f: &[i64; 8]) -> i64
+pub(crate) fn sum(f: &[i64; 8]) -> i64
     requires { ⌜ Sized 8 (2 ^ 32) (now f) ⌝ }
     ensures { λ r. ⌜ r ≡ sumV (now (f .entry)) ⌝ }
 {
@@ -52,7 +52,7 @@ fn sum(f: &[i64; 8]) -> i64
     t
 }
 
-fn odd(t: i64) -> bool
+pub(crate) fn odd(t: i64) -> bool
     ensures { λ r. ⌜ r ≡ eqb (par t) 1 ⌝ }
 {
     t % 2 != 0

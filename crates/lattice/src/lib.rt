@@ -2,4 +2,5 @@
 pub mod basis;
 mod coordinate;
 mod half;
+pub mod member;
 pub mod point;

@@ -81,10 +81,14 @@ dot-ones zero (x ∷ e) h = absurd (omega arith)
 dot-ones (suc n) [] h = absurd (omega arith)
 dot-ones (suc n) (x ∷ e) h = ap (λ (t : ℤ). pos 1 *ℤ x +ℤ t) (dot-ones n e (suc-inj h)) ∙ one-step x (sumV e)
 
--- a multiple of 4 has the floor remainder 0
+-- a multiple of 4 has the floor remainder 0, and only it
 pub four-mod : (z : ℤ) → natAbs z % 4 ≡ 0 → floorMod z 4 ≡ 0
 four-mod (pos n) h = h
 four-mod (negsuc n) h = omega arith
+
+pub mod-four : (z : ℤ) → floorMod z 4 ≡ 0 → natAbs z % 4 ≡ 0
+mod-four (pos n) h = h
+mod-four (negsuc n) h = omega arith
 
 -- every row of the table is P
 abbrev pub Rows : (List ℤ → Type 0) → List (List ℤ) → Type 0
