@@ -7,6 +7,7 @@ pub mod Moves
 pub mod Close
 pub mod Member
 pub mod Theorems
+pub mod Asked
 pub mod Tables
 pub mod Rows
 pub mod Basis

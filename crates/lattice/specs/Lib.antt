@@ -2,6 +2,7 @@
 pub mod Doubled
 pub mod Nearest
 pub mod Computed
+pub mod Answers
 pub mod Basis
 pub mod Rounding
 pub mod Laws

@@ -8,8 +8,8 @@ use native.Mathlib.Omega.{arith}
 use lib.Dec.{T}
 use lib.IntN.{ℤ, pos, negsuc, negℤ, natAbs, _+ℤ_, _-ℤ_, _*ℤ_}
 use lib.Signed.{_≤ℤ_, _<ℤ_, leZ, ltZ, clashℤ, quotZ, remZ, mag-rem}
-use mir.Syntax.{w64}
-use mir.Val.{SFits, ofZ}
+use mir.Syntax.{w64, Width}
+use mir.Val.{SFits, ofZ, hbits}
 use Rattle.integers.specs.Laws.Difference.{abs-D, ints, byD₂}
 use Rattle.integers.specs.Laws.Signed.{≤ℤ-or-<ℤ}
 
@@ -33,15 +33,31 @@ abs-mul (negsuc a) (negsuc b) = refl
 pub abs-mul-le : (x y : ℤ) {m n : ℕ} → natAbs x ≤ m → natAbs y ≤ n → natAbs (x *ℤ y) ≤ m * n
 abs-mul-le x y h k = rw (abs-mul x y) (mul-le-mul h k)
 
+-- a number is no larger than another and what lies between them
+pub abs-from : (x z : ℤ) → natAbs z ≤ natAbs x + natAbs (x -ℤ z)
+abs-from = byD₂ _ λ _ _ _ _. simp (ints, abs-D) (omega arith)
+
+-- a multiple of a number is no smaller
+pub abs-times : (s y : ℤ) → 0 < natAbs s → natAbs y ≤ natAbs (s *ℤ y)
+abs-times s y h = rw (abs-mul s y) (go (natAbs s) h)
+  where
+    go : (m : ℕ) → 0 < m → natAbs y ≤ m * natAbs y
+    go zero l = absurd (omega arith)
+    go (suc m) l = omega arith
+
 pub abs-quot : (x y : ℤ) → natAbs (quotZ x y) ≤ natAbs x
 abs-quot (pos a) (pos b) = div-le-self a b
 abs-quot (pos a) (negsuc b) = rw (abs-neg (pos (a / suc b))) (div-le-self a (suc b))
 abs-quot (negsuc a) (pos b) = rw (abs-neg (pos (suc a / b))) (div-le-self (suc a) b)
 abs-quot (negsuc a) (negsuc b) = div-le-self (suc a) (suc b)
 
+-- a number that is small enough fits, at any width
+pub fits-mag : (w : Width) (z : ℤ) → natAbs z < 2 ^ hbits w → SFits w z
+fits-mag w (pos n) h = record { sfits = h }
+fits-mag w (negsuc n) h = record { sfits = omega arith }
+
 pub fits-abs : (z : ℤ) → natAbs z < 2 ^ 63 → SFits w64 z
-fits-abs (pos n) h = record { sfits = h }
-fits-abs (negsuc n) h = record { sfits = omega arith }
+fits-abs = fits-mag w64
 
 pub abs-fits : (z : ℤ) → SFits w64 z → natAbs z ≤ 2 ^ 63
 abs-fits (pos n) h = omega (arith, h .sfits)

@@ -10,7 +10,8 @@ use Rattle.integers.specs.Floor.{floorDiv, floorMod}
 use Rattle.integers.specs.Laws.Difference.{D, abs-D, byD, ints, byD₂, byD₃}
 use Rattle.integers.specs.Laws.Floors.{floorMod-lt, floor-split, floorDiv-shr, byPos}
 use Rattle.integers.specs.Laws.Signed.{slack<, trichotomy}
-use Rattle.integers.specs.Laws.Sizes.{abs-add, abs-sub, abs-mul, leZ-true, leZ-false}
+use Rattle.integers.specs.Laws.Sizes.{abs-add, abs-sub, abs-mul, abs-from, abs-times, leZ-true, leZ-false}
+use Rattle.integers.specs.Vectors.{small}
 use Rattle.lattice.specs.Laws.Rounds.{round-rest}
 use Rattle.lattice.specs.Rounding.{round, left, Divisor, reciprocal}
 
@@ -86,17 +87,11 @@ pub left-small : (s : ℤ) → Divisor s → (x : ℤ) → natAbs (left (pos 2 *
 left-small s h x = let r = round-rest (pos 2 *ℤ s) x (twice-pos s (h .least) .1) in half-left s (left (pos 2 *ℤ s) x) (h .least) (r .0) (r .1)
 
 pub round-small : (s : ℤ) → Divisor s → (x : ℤ) → natAbs (round (pos 2 *ℤ s) x) ≤ natAbs x + 16384
-round-small s h x = let r : ℤ = round (pos 2 *ℤ s) x in let m : ℕ = natAbs (pos 2 *ℤ s) in
-    omega (arith, le-mul m (natAbs r) (m> s (h .least)), abs-mul (pos 2 *ℤ s) r, back x (pos 2 *ℤ s *ℤ r), left-small s h x, h .most)
+round-small s h x = let r : ℤ = round (pos 2 *ℤ s) x in
+    omega (arith, abs-times (pos 2 *ℤ s) r (doubled s (h .least)), abs-from x (pos 2 *ℤ s *ℤ r), left-small s h x, h .most)
   where
-    le-mul : (m k : ℕ) → 0 < m → k ≤ m * k
-    le-mul (suc m) k l = omega arith
-
-    m> : (s : ℤ) → pos 1 ≤ℤ s → 0 < natAbs (pos 2 *ℤ s)
-    m> = byPos _ λ n. omega arith
-
-    back : (x z : ℤ) → natAbs z ≤ natAbs x + natAbs (x -ℤ z)
-    back = byD₂ _ λ _ _ _ _. simp (ints, abs-D) (omega arith)
+    doubled : (s : ℤ) → pos 1 ≤ℤ s → 0 < natAbs (pos 2 *ℤ s)
+    doubled = byPos _ λ n. omega arith
 
 pub reciprocal-small : (s : ℤ) → pos 1 ≤ℤ s → reciprocal s ≤ 2147483648
 reciprocal-small = byPos _ λ n. omega (arith, div-add-mod 4294967296 (2 * suc n))
