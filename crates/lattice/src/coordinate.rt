@@ -3,7 +3,7 @@ ghost use mathlib.Core.Path.{_≡_};
 ghost use mathlib.Core.Bool.{cond};
 ghost use Prim.Native.Nat.{_+_, _^_, _≤_, _<_};
 ghost use lib.IntN.{pos, negsuc, natAbs, _*ℤ_};
-ghost use lib.Signed.{leZ, ltZ};
+ghost use lib.Signed.{ltZ};
 ghost use Rattle.lattice.specs.Rounding.{Divisor, reciprocal, round, key, spot, Greater};
 
 // 2^32 over 2s: one division serves all sixteen roundings of a call.
@@ -14,14 +14,14 @@ pub(crate) fn reciprocal(s: i64) -> i64
     4294967296 / (s + s)
 }
 
-// 1 where t reaches m, else 0.
-fn carry(t: i64, m: i64) -> i64
-    ensures { λ r. ⌜ r ≡ cond (leZ m t) (pos 1) (pos 0) ⌝ }
+// 1 where t is more than h, else 0.
+fn carry(t: i64, h: i64) -> i64
+    ensures { λ r. ⌜ r ≡ cond (ltZ h t) (pos 1) (pos 0) ⌝ }
 {
-    if t >= m { 1 } else { 0 }
+    if t > h { 1 } else { 0 }
 }
 
-// The whole number nearest to x / 2s, the lower of two. The guess by the reciprocal w is right or one too low.
+// The whole number nearest to x / 2s, the lower of two. The guess by the reciprocal w is right, or one too low: then more than s is left.
 pub(crate) fn round(x: i64, s: i64, w: i64) -> i64
     requires { ⌜ Divisor s × (natAbs x ≤ 2 ^ 30 + 2 ^ 14) × (w ≡ pos (reciprocal s)) ⌝ }
     ensures { λ r. ⌜ r ≡ round (pos 2 *ℤ s) x ⌝ }
@@ -29,7 +29,7 @@ pub(crate) fn round(x: i64, s: i64, w: i64) -> i64
     let m = s + s;
     let y = x + s - 1;
     let q = (y * w - 2147483648) >> 32;
-    q + carry(y - m * q, m)
+    q + carry(x - m * q, s)
 }
 
 // The step that mends a coordinate of which x is left: toward the input, down where nothing is left; 0 where nothing is to be mended.

@@ -24,9 +24,11 @@ pub record Filled {A B : Type 0} (f : A → B) (n : ℕ) (a : List A) (i : ℕ) 
   pub same : take i r ≡ map f (take i a)
 
 module _ {A B : Type 0} (f : A → B) (n : ℕ) (a : List A) (long : length a ≡ n) where
+  -- one turn more
   pub filled-more : {i : ℕ} {r : List B} (d : A) (z : B) → z ≡ f (getD a i d) → i < n → Filled f n a i r → Filled f n a (i + 1) (set r i z)
   filled-more {i} {r} d z e h s = rw e (record { within = omega arith; long = length-set r i _ ∙ s .long; same = fill-step f a r i d (omega arith) (omega (arith, s .long)) (s .same) })
 
+  -- after the last turn
   pub filled-all : {i : ℕ} {r : List B} → n ≤ i → Filled f n a i r → r ≡ map f a
   filled-all {i} {r} h s = fill-done f a r i (omega arith) (omega (arith, s .long)) (s .same)
 

@@ -5,13 +5,12 @@ use Prim.Native.Nat.{ℕ, suc, _+_, _*_, _/_, _%_, _^_, _<_, _≤_}
 use native.Mathlib.Nat.{mul-le-mul, le-refl, div-add-mod, mod-lt}
 use native.Mathlib.Omega.{arith}
 use lib.IntN.{ℤ, pos, negsuc, negℤ, natAbs, _+ℤ_, _-ℤ_, _*ℤ_}
-use lib.Signed.{_≤ℤ_, _<ℤ_, leZ, quotZ, shrZ}
+use lib.Signed.{_≤ℤ_, _<ℤ_, ltZ, quotZ, shrZ}
 use Rattle.integers.specs.Floor.{floorDiv, floorMod}
 use Rattle.integers.specs.Laws.Difference.{D, abs-D, byD, ints, byD₂, byD₃}
 use Rattle.integers.specs.Laws.Floors.{floorMod-lt, floor-split, floorDiv-shr, byPos}
 use Rattle.integers.specs.Laws.Signed.{slack<, trichotomy}
-use Rattle.integers.specs.Laws.Sizes.{abs-add, abs-sub, abs-mul, abs-from, abs-times, leZ-true, leZ-false}
-use Rattle.integers.specs.Vectors.{small}
+use Rattle.integers.specs.Laws.Sizes.{abs-add, abs-sub, abs-mul, abs-from, abs-times, ltZ-true, ltZ-false}
 use Rattle.lattice.specs.Laws.Rounds.{round-rest}
 use Rattle.lattice.specs.Rounding.{round, left, Divisor, reciprocal}
 
@@ -64,20 +63,20 @@ module _ (s x : ℤ) (s≥ : pos 1 ≤ℤ s) (small : natAbs (x +ℤ s -ℤ pos 
   abbrev y : ℤ
   y = x +ℤ s -ℤ pos 1
 
-  pub guess-round : guess s y +ℤ cond (leZ (pos 2 *ℤ s) (y -ℤ pos 2 *ℤ s *ℤ guess s y)) (pos 1) (pos 0) ≡ round (pos 2 *ℤ s) x
-  guess-round = go (leZ (pos 2 *ℤ s) (y -ℤ pos 2 *ℤ s *ℤ guess s y)) refl
+  pub guess-round : guess s y +ℤ cond (ltZ s (x -ℤ pos 2 *ℤ s *ℤ guess s y)) (pos 1) (pos 0) ≡ round (pos 2 *ℤ s) x
+  guess-round = go (ltZ s (x -ℤ pos 2 *ℤ s *ℤ guess s y)) refl
     where
-      yes-carry : (s x q : ℤ) → pos 1 ≤ℤ s → (x +ℤ s -ℤ pos 1 -ℤ pos 2 *ℤ s *ℤ q) <ℤ (pos 2 *ℤ (pos 2 *ℤ s)) → (pos 2 *ℤ s) ≤ℤ (x +ℤ s -ℤ pos 1 -ℤ pos 2 *ℤ s *ℤ q)
+      yes-carry : (s x q : ℤ) → pos 1 ≤ℤ s → (x +ℤ s -ℤ pos 1 -ℤ pos 2 *ℤ s *ℤ q) <ℤ (pos 2 *ℤ (pos 2 *ℤ s)) → s <ℤ (x -ℤ pos 2 *ℤ s *ℤ q)
           → (negℤ (pos 2 *ℤ s) <ℤ (pos 2 *ℤ (x -ℤ pos 2 *ℤ s *ℤ (q +ℤ pos 1)))) × ((pos 2 *ℤ (x -ℤ pos 2 *ℤ s *ℤ (q +ℤ pos 1))) ≤ℤ (pos 2 *ℤ s))
       yes-carry = byD₃ _ λ _ _ _ _ _ _. simp ints (omega arith)
 
-      no-carry : (s x q : ℤ) → pos 1 ≤ℤ s → pos 0 ≤ℤ (x +ℤ s -ℤ pos 1 -ℤ pos 2 *ℤ s *ℤ q) → (x +ℤ s -ℤ pos 1 -ℤ pos 2 *ℤ s *ℤ q) <ℤ (pos 2 *ℤ s)
+      no-carry : (s x q : ℤ) → pos 1 ≤ℤ s → pos 0 ≤ℤ (x +ℤ s -ℤ pos 1 -ℤ pos 2 *ℤ s *ℤ q) → (x -ℤ pos 2 *ℤ s *ℤ q) ≤ℤ s
           → (negℤ (pos 2 *ℤ s) <ℤ (pos 2 *ℤ (x -ℤ pos 2 *ℤ s *ℤ (q +ℤ pos 0)))) × ((pos 2 *ℤ (x -ℤ pos 2 *ℤ s *ℤ (q +ℤ pos 0))) ≤ℤ (pos 2 *ℤ s))
       no-carry = byD₃ _ λ _ _ _ _ _ _. simp ints (omega arith)
 
-      go : (b : Bool) → leZ (pos 2 *ℤ s) (y -ℤ pos 2 *ℤ s *ℤ guess s y) ≡ b → guess s y +ℤ cond b (pos 1) (pos 0) ≡ round (pos 2 *ℤ s) x
-      go true e = let g = guess-ok s s≥ y small in let k = yes-carry s x (guess s y) s≥ (g .1) (leZ-true _ _ e) in round-is (pos 2 *ℤ s) x _ (twice-pos s s≥ .1) (k .0) (k .1)
-      go false e = let g = guess-ok s s≥ y small in let k = no-carry s x (guess s y) s≥ (g .0) (leZ-false _ _ e) in round-is (pos 2 *ℤ s) x _ (twice-pos s s≥ .1) (k .0) (k .1)
+      go : (b : Bool) → ltZ s (x -ℤ pos 2 *ℤ s *ℤ guess s y) ≡ b → guess s y +ℤ cond b (pos 1) (pos 0) ≡ round (pos 2 *ℤ s) x
+      go true e = let g = guess-ok s s≥ y small in let k = yes-carry s x (guess s y) s≥ (g .1) (ltZ-true _ _ e) in round-is (pos 2 *ℤ s) x _ (twice-pos s s≥ .1) (k .0) (k .1)
+      go false e = let g = guess-ok s s≥ y small in let k = no-carry s x (guess s y) s≥ (g .0) (ltZ-false _ _ e) in round-is (pos 2 *ℤ s) x _ (twice-pos s s≥ .1) (k .0) (k .1)
 
 -- what is left, and how large a rounded coordinate is
 half-left : (s r : ℤ) → pos 1 ≤ℤ s → negℤ (pos 2 *ℤ s) <ℤ (pos 2 *ℤ r) → (pos 2 *ℤ r) ≤ℤ (pos 2 *ℤ s) → natAbs r ≤ natAbs s
@@ -121,7 +120,7 @@ module _ (s x w : ℤ) (h : Divisor s) (k : natAbs x ≤ 2 ^ 30 + 2 ^ 14) (e : w
   mq-small = let g = guess-ok s (h .least) codeY y-small in
       rw (is-guess, twice s) (omega (arith, product-small codeY (pos 2 *ℤ s) (pos 2 *ℤ s *ℤ guess s codeY) (g .0) (g .1), abs-mul (pos 2) s, h .most, y-small))
 
-  pub code-round : codeQ +ℤ cond (leZ (s +ℤ s) (codeY -ℤ (s +ℤ s) *ℤ codeQ)) (pos 1) (pos 0) ≡ round (pos 2 *ℤ s) x
+  pub code-round : codeQ +ℤ cond (ltZ s (x -ℤ (s +ℤ s) *ℤ codeQ)) (pos 1) (pos 0) ≡ round (pos 2 *ℤ s) x
   code-round = rw (is-guess, twice s) (guess-round s x (h .least) y-small)
 
 pub less-one : (x s : ℤ) → x -ℤ s ≡ x -ℤ s *ℤ pos 1

@@ -1,11 +1,11 @@
--- `round` is the nearest whole number, the lower of two: the guess by the reciprocal, and the carry where it is one too low.
+-- `round` is the nearest whole number, the lower of two: the guess by the reciprocal, and one more where that leaves more than half.
 use borrow.Author.Needs.{needs}
 use mathlib.Core.Path.{_≡_}
 use mathlib.Core.Bool.{cond}
 use Prim.Native.Nat.{_≤_}
 use native.Mathlib.Omega.{arith}
 use lib.IntN.{ℤ, pos, natAbs, _+ℤ_, _-ℤ_, _*ℤ_}
-use lib.Signed.{leZ, shrZ, mag-shr}
+use lib.Signed.{ltZ, shrZ, mag-shr}
 use mir.Syntax.{w64}
 use mir.Val.{SFits}
 use mir.Facts.{toZ-ofZ}
@@ -36,7 +36,7 @@ module _ (c : tie.Start) where
 
   -- 1 where the guess is too low
   abbrev up : ℤ
-  up = cond (leZ (s +ℤ s) (y -ℤ (s +ℤ s) *ℤ q)) (pos 1) (pos 0)
+  up = cond (ltZ s (x -ℤ (s +ℤ s) *ℤ q)) (pos 1) (pos 0)
 
   fm : SFits w64 (s +ℤ s)
   fm = fits-add s s (omega (arith, c .pre .0 .most))
@@ -65,8 +65,8 @@ module _ (c : tie.Start) where
   fmq : SFits w64 ((s +ℤ s) *ℤ q)
   fmq = fits-abs _ (omega (arith, mq-small s x w (c .pre .0) (c .pre .1) (c .pre .2)))
 
-  ft : SFits w64 (y -ℤ (s +ℤ s) *ℤ q)
-  ft = fits-sub y ((s +ℤ s) *ℤ q) (omega (arith, y≤, mq-small s x w (c .pre .0) (c .pre .1) (c .pre .2)))
+  ft : SFits w64 (x -ℤ (s +ℤ s) *ℤ q)
+  ft = fits-sub x ((s +ℤ s) *ℤ q) (omega (arith, mq-small s x w (c .pre .0) (c .pre .1) (c .pre .2)))
 
   is : q +ℤ up ≡ round (pos 2 *ℤ s) x
   is = code-round s x w (c .pre .0) (c .pre .1) (c .pre .2)

@@ -1,6 +1,6 @@
 -- `nearest_point` takes the closer half: of both halves and what they leave, `nearestPoint-code` says which is the nearest point.
 use borrow.Author.Needs.{needs}
-use mathlib.Core.Path.{_≡_, sym, _∙_}
+use mathlib.Core.Path.{_≡_, sym, _∙_, ap}
 use mathlib.Core.Bool.{Bool, cond}
 use mathlib.Core.List.{List}
 use Prim.Native.Nat.{_+_, _^_}
@@ -93,13 +93,13 @@ module _ (c : tie.After-closer) where
   g-is = simp (toZ-ofZ, b .fits .s) at (e .nearest-d .ensures .0)
 
   h-is : h ≡ nearestD (pos 2 *ℤ s) (lower s 1 d)
-  h-is = simp (toZ-ofZ, b .fits .s, lowered (e .before)) at (o .nearest-d2 .ensures .0)
+  h-is = (simp (toZ-ofZ, b .fits .s) at (o .nearest-d2 .ensures .0)) ∙ ap (nearestD (pos 2 *ℤ s)) (lowered (e .before))
 
   A-is : A ≡ rests (pos 2 *ℤ s) d g
   A-is = simp (toZ-ofZ, b .fits .s) at (e .nearest-d .ensures .1)
 
   B-is : B ≡ rests (pos 2 *ℤ s) (lower s 1 d) h
-  B-is = simp (toZ-ofZ, b .fits .s, lowered (e .before)) at (o .nearest-d2 .ensures .1)
+  B-is = (simp (toZ-ofZ, b .fits .s) at (o .nearest-d2 .ensures .1)) ∙ ap (λ (v : List ℤ). rests (pos 2 *ℤ s) v h) (lowered (e .before))
 
   fg : SFits w64 («at» g 0)
   fg = fits-abs _ (omega (arith, e .nearest-d .ensures .2 .small 0))
