@@ -1,3 +1,4 @@
--- Proved facts of settings and step lists.
+-- Proved facts of verdicts, settings and step lists.
+pub mod Verdicts
 pub mod Allowed
 pub mod Edges

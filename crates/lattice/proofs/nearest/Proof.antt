@@ -1,6 +1,6 @@
 -- `nearest` answers the computed point where nothing is refused, and that point is the nearest by its definition.
 use mathlib.Core.Path.{_≡_, refl, sym, _∙_, ap}
-use Prim.Native.Nat.{ℕ, _^_}
+use Prim.Native.Nat.{_^_}
 use native.Mathlib.Omega.{arith}
 use borrow.Author.Needs.{needs}
 use lib.IntN.{ℤ, pos}
@@ -9,9 +9,9 @@ use mir.Val.{SFits}
 use mir.Facts.{toZ-ofZ, sfits-widen}
 use Rattle.integers.specs.Laws.Linear.{Z}
 use Rattle.integers.specs.Laws.Sums.{sized-more}
-use Rattle.refusals.specs.declared.Refusal.{Refusal}
 use Rattle.refusals.specs.declared.Verdict.{Verdict}
 use Rattle.refusals.specs.declared.Verdict.the-variants.{Accepted, Refused}
+use Rattle.refusals.specs.Laws.Verdicts.{refused-never}
 use Rattle.lattice.specs.declared.PointAnswer.{PointAnswer}
 use Rattle.lattice.specs.Computed.{nearestPoint}
 use Rattle.lattice.specs.Answers.{answered, checkNearest, nearest}
@@ -31,10 +31,6 @@ refused-requires c κs = search needs
 
 enum-told : tie.Need-enum-told
 enum-told c = search needs
-
--- a refusal is no acceptance
-never : {r : Refusal} {A : Type 0} → Refused r ≡ Accepted → A
-never e = let z : _≡_ {A = ℕ} 0 1 = cc in absurd (omega arith)
 
 -- the verdict
 judged : (c : tie.After-check-nearest) → c .check-nearest .result ≡ checkNearest (c .before .args .d .now) (c .before .args .s)
@@ -82,7 +78,7 @@ returns : tie.Need-returns
 unfolding nearest
 returns c = let n = c .before .before .before .before in let s = n .before .args .s in let d = n .before .args .d .now in
     let v = sym (judged n) ∙ c .before .before .r .given .1 in
-    (c .refused .ensures ∙ ap (λ (w : Verdict). answered w (nearestPoint s d)) (sym v), λ h. never (ap (λ (a : PointAnswer). a .verdict) (sym (c .refused .ensures)) ∙ h))
+    (c .refused .ensures ∙ ap (λ (w : Verdict). answered w (nearestPoint s d)) (sym v), λ h. refused-never (ap (λ (a : PointAnswer). a .verdict) (sym (c .refused .ensures)) ∙ h))
 
 returns-2 : tie.Need-returns-2
 unfolding nearest

@@ -1,6 +1,6 @@
 -- What it says that the nearest point was asked for and not refused.
-use mathlib.Core.Path.{_≡_, refl}
-use mathlib.Core.Bool.{Bool, true, false, _&&_}
+use mathlib.Core.Path.{_≡_}
+use mathlib.Core.Bool.{_&&_}
 use mathlib.Core.List.{List, [], _∷_}
 use Prim.Native.Nat.{ℕ, _-_, _^_, _≤_}
 use native.Mathlib.Decide.{decLe}
@@ -11,14 +11,16 @@ use lib.IntN.{ℤ, pos, natAbs, _*ℤ_}
 use lib.ListN.{length, List·getD-eq-default}
 use lib.Signed.{_≤ℤ_, _<ℤ_}
 use Rattle.refusals.specs.declared.Refusal.the-variants.{Size, Point}
+use Rattle.refusals.specs.declared.Verdict.{Verdict}
 use Rattle.refusals.specs.declared.Verdict.the-variants.{Accepted}
 use Rattle.integers.specs.Laws.Floors.{abs-pos}
 use Rattle.integers.specs.Laws.Linear.{Z}
 use Rattle.integers.specs.Laws.Sizes.{abs-from, abs-times}
 use Rattle.integers.specs.Laws.Tests.{and-true, within-true, between, sized-small}
 use Rattle.integers.specs.Vectors.{«at», Sized, within, small}
+use Rattle.refusals.specs.Laws.Verdicts.{unless-accepted, first-accepted}
 use Rattle.refusals.specs.Limits.{stepMost, pointMost}
-use Rattle.refusals.specs.Verdicts.{unless, firstRefusal}
+use Rattle.refusals.specs.Verdicts.{unless}
 use Rattle.lattice.specs.Answers.{checkNearest}
 use Rattle.lattice.specs.Computed.{nearestPoint}
 use Rattle.lattice.specs.Laws.Theorems.{nearest8, nearest8-close}
@@ -31,14 +33,15 @@ pub record Asked (d : List ℤ) (s : ℤ) : Type 0 where
 
 pub accepted-asked : (d : List ℤ) (s : ℤ) → checkNearest d s ≡ Accepted → Asked d s
 unfolding checkNearest
-accepted-asked d s = go (eqb (length d) 8) refl (small pointMost d && within (pos 1) (pos stepMost) s) refl
-  where
-    go : (a : Bool) → eqb (length d) 8 ≡ a → (b : Bool) → (small pointMost d && within (pos 1) (pos stepMost) s) ≡ b
-        → firstRefusal (unless a (Size 0) ∷ unless b Point ∷ []) ≡ Accepted → Asked d s
-    go true p true q e = let t = and-true (small pointMost d) (within (pos 1) (pos stepMost) s) q in
-        record { input = sized-small 8 pointMost d (eqb-true (length d) 8 p) (t .0); least = within-true (pos 1) (pos stepMost) s (t .1) .0; most = between 1 stepMost s (t .1) .2 }
-    go true p false q e = let z : _≡_ {A = ℕ} 0 1 = cc in absurd (omega arith)
-    go false p b q e = let z : _≡_ {A = ℕ} 0 1 = cc in absurd (omega arith)
+accepted-asked d s e =
+    let eight : Verdict = unless (eqb (length d) 8) (Size 0) in let limits : Verdict = unless (small pointMost d && within (pos 1) (pos stepMost) s) Point in
+    let a = first-accepted eight (limits ∷ []) e in let b = first-accepted limits [] (a .1) in
+    let t = and-true (small pointMost d) (within (pos 1) (pos stepMost) s) (unless-accepted _ Point (b .0)) in
+    record {
+      input = sized-small 8 pointMost d (eqb-true (length d) 8 (unless-accepted _ (Size 0) (a .0))) (t .0);
+      least = within-true (pos 1) (pos stepMost) s (t .1) .0;
+      most = between 1 stepMost s (t .1) .2;
+    }
 
 -- a coordinate of the answer is not much larger than that of the input
 pub nearest-sized : (d : List ℤ) (s : ℤ) → Asked d s → Sized 8 (2 ^ 31 - 1) (nearestPoint s d)

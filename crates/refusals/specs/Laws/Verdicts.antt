@@ -1,0 +1,24 @@
+-- Laws of verdicts and of the order of checks.
+use mathlib.Core.Path.{_≡_, refl}
+use mathlib.Core.Bool.{Bool, true, false}
+use mathlib.Core.List.{List, _∷_}
+use Prim.Native.Nat.{ℕ}
+use native.Mathlib.Omega.{arith}
+use Rattle.refusals.specs.declared.Refusal.{Refusal}
+use Rattle.refusals.specs.declared.Verdict.{Verdict}
+use Rattle.refusals.specs.declared.Verdict.the-variants.{Accepted, Refused}
+use Rattle.refusals.specs.Verdicts.{unless, firstRefusal}
+
+-- a refusal is no acceptance
+pub refused-never {ℓ} : {r : Refusal} {A : Type ℓ} → Refused r ≡ Accepted → A
+refused-never e = let z : _≡_ {A = ℕ} 0 1 = cc in absurd (omega arith)
+
+-- a check accepts where its test holds
+pub unless-accepted : (b : Bool) (r : Refusal) → unless b r ≡ Accepted → b ≡ true
+unless-accepted true r e = refl
+unless-accepted false r e = refused-never e
+
+-- a list of checks accepts where each does
+pub first-accepted : (v : Verdict) (l : List Verdict) → firstRefusal (v ∷ l) ≡ Accepted → (v ≡ Accepted) × (firstRefusal l ≡ Accepted)
+first-accepted Accepted l e = (refl, e)
+first-accepted (Refused r) l e = refused-never e

@@ -1,0 +1,2 @@
+-- Answers as C takes them.
+pub mod Answers
