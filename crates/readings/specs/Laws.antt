@@ -3,3 +3,6 @@ pub mod Nearest
 pub mod Exact
 pub mod Taking
 pub mod Patterns
+pub mod Examples
+pub mod Report
+pub mod Words

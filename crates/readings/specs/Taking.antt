@@ -1,4 +1,4 @@
--- Taking a reading (01, Readings and units).
+-- Taking a reading (01, Readings and units): the answer in whole units X of 1/1024, and the value that is handed out.
 use Prim.Native.Nat.{ℕ, _*_, _^_, _≤_}
 use mathlib.Core.Bool.{cond}
 use lib.Dec.{ltb}
@@ -8,31 +8,69 @@ use Rattle.readings.specs.Fractions.{signed, nearest, fraction}
 use Rattle.readings.specs.declared.Measured.{Measured}
 use Rattle.readings.specs.declared.Measured.the-variants.{Units, Missing, OutOfRange}
 use Rattle.readings.specs.declared.Taken.{Taken}
-use Rattle.readings.specs.declared.Taken.the-variants as T
+use Rattle.readings.specs.declared.Taken.the-variants as taken
 
--- whole units: past 2 ^ 24 in magnitude, which is 16384, they are out of range
+-- the greatest magnitude of X, which is 16384
+abbrev pub unitsMost : ℕ
+unitsMost = 2 ^ 24
+
+-- whole units: past that magnitude they are out of range
 unfoldable pub measureUnits : ℤ → Measured
-measureUnits X = cond (ltb (2 ^ 24) (natAbs X)) OutOfRange (Units X)
+measureUnits X = cond (ltb unitsMost (natAbs X)) OutOfRange (Units X)
 
--- a float: every NaN is missing, an infinity is out of range; any other counts as its nearest whole units
+-- a float: every NaN is missing and an infinity is out of range; any other, ±m times a power of two, counts as the whole units nearest to it
 unfoldable pub measureFloat : Float → Measured
-unfolding measureUnits nearest
 measureFloat nan = Missing
-measureFloat (inf s) = OutOfRange
-measureFloat (fin s m e) = measureUnits (nearest (signed s (1024 * (m * up e))) (down e))
+measureFloat (inf sign) = OutOfRange
+measureFloat (fin sign m power) = measureUnits (nearest (signed sign (1024 * (m * up power))) (down power))
 
--- a binary32 pattern
+-- a binary32 pattern counts as its float
 abbrev pub measureBits : ℕ → Measured
 measureBits bits = measureFloat (ofBits binary32 bits)
 
--- X, where there is one, is at most 2 ^ 24 in magnitude
+-- X, where there is one, is at most that in magnitude
 abbrev pub InRange : Measured → Type 0
-InRange (Units X) = natAbs X ≤ 2 ^ 24
+InRange (Units X) = natAbs X ≤ unitsMost
 InRange Missing = Unit {0}
 InRange OutOfRange = Unit {0}
 
--- what is handed out: the value X / 1024
+-- document 01's number of the answer: 0 for none, 4 missing, 5 out of range
+abbrev pub measuredNumber : Measured → ℕ
+measuredNumber (Units X) = 0
+measuredNumber Missing = 4
+measuredNumber OutOfRange = 5
+
+-- X, and 0 where there is none
+abbrev pub measuredUnits : Measured → ℤ
+measuredUnits (Units X) = X
+measuredUnits Missing = pos 0
+measuredUnits OutOfRange = pos 0
+
+-- the value of X units: X / 1024
+abbrev pub unitsValue : ℤ → Float
+unitsValue X = fraction X 1024
+
+-- what is handed out for a measured reading
 abbrev pub takenOf : Measured → Taken
-takenOf (Units X) = T.Value (fraction X 1024)
-takenOf Missing = T.Missing
-takenOf OutOfRange = T.OutOfRange
+takenOf (Units X) = taken.Value (unitsValue X)
+takenOf Missing = taken.Missing
+takenOf OutOfRange = taken.OutOfRange
+
+-- taking whole units, and taking a binary32 pattern
+abbrev pub takeUnits : ℤ → Taken
+takeUnits X = takenOf (measureUnits X)
+
+abbrev pub takeBits : ℕ → Taken
+takeBits bits = takenOf (measureBits bits)
+
+-- document 01's number of what is handed out
+abbrev pub takenNumber : Taken → ℕ
+takenNumber (taken.Value v) = 0
+takenNumber taken.Missing = 4
+takenNumber taken.OutOfRange = 5
+
+-- the value, and +0.0 where there is none
+abbrev pub takenValue : Taken → Float
+takenValue (taken.Value v) = v
+takenValue taken.Missing = unitsValue (pos 0)
+takenValue taken.OutOfRange = unitsValue (pos 0)

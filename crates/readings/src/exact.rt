@@ -2,12 +2,13 @@
 ghost use mathlib.Core.Path.{_≡_};
 ghost use Prim.Native.Nat.{_≤_, _^_};
 ghost use lib.IntN.{natAbs, _*ℤ_};
-ghost use Rattle.readings.specs.Fractions.{fraction};
+ghost use Rattle.readings.specs.Taking.{unitsValue};
+ghost use Rattle.readings.specs.Report.{decodedValue};
 
-// A reading as taken: X/1024.
-pub fn taken_value(x: i32) -> f32
+// The value of X units: X/1024.
+pub fn units_value(x: i32) -> f32
     requires { ⌜ natAbs x ≤ 2 ^ 24 ⌝ }
-    ensures { λ r. ⌜ r ≡ fraction x 1024 ⌝ }
+    ensures { λ r. ⌜ r ≡ unitsValue x ⌝ }
 {
     x as f32 / 1024.0
 }
@@ -15,7 +16,7 @@ pub fn taken_value(x: i32) -> f32
 // A reading as decoded: s·e/2048, for a step s and a doubled coordinate e.
 pub fn decoded_value(s: i64, e: i64) -> f32
     requires { ⌜ natAbs (s *ℤ e) ≤ 2 ^ 24 ⌝ }
-    ensures { λ r. ⌜ r ≡ fraction (s *ℤ e) 2048 ⌝ }
+    ensures { λ r. ⌜ r ≡ decodedValue s e ⌝ }
 {
     (s * e) as f32 / 2048.0
 }

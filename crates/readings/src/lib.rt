@@ -1,6 +1,6 @@
 // Readings: what is a number, what is missing or out of range, and what single precision holds exactly.
 ghost use mathlib.Core.Path.{_≡_};
-ghost use Rattle.readings.specs.Taking.{measureUnits, measureBits, takenOf, InRange};
+ghost use Rattle.readings.specs.Taking.{measureUnits, measureBits, InRange, takenOf, takeUnits, takeBits};
 ghost use Rattle.readings.specs.Report.{Reportable, reportReading};
 
 pub mod exact;
@@ -39,23 +39,23 @@ pub fn measure_units(x: i32) -> Measured
 pub fn measure_bits(bits: u32) -> Measured
     ensures { λ r. ⌜ r ≡ measureBits bits ⌝ }
 {
-    let size = bits % 2147483648;
-    if size > 0x7f80_0000 {
+    let size = bits % pattern::SIGN;
+    if size > pattern::INFINITY {
         return Measured::Missing;
     }
-    if size >= 0x4700_0000 {
+    if size >= pattern::TOO_LARGE {
         return Measured::OutOfRange;
     }
     measure_units(pattern::whole_units(bits))
 }
 
 // What a measured reading is handed out as.
-fn hand_out(m: Measured) -> Taken
+fn taken_of(m: Measured) -> Taken
     requires { ⌜ InRange m ⌝ }
     ensures { λ r. ⌜ r ≡ takenOf m ⌝ }
 {
     match m {
-        Measured::Units(x) => Taken::Value(exact::taken_value(x)),
+        Measured::Units(x) => Taken::Value(exact::units_value(x)),
         Measured::Missing => Taken::Missing,
         Measured::OutOfRange => Taken::OutOfRange,
     }
@@ -63,16 +63,16 @@ fn hand_out(m: Measured) -> Taken
 
 // Takes a reading that arrives as whole units.
 pub fn take_units(x: i32) -> Taken
-    ensures { λ r. ⌜ r ≡ takenOf (measureUnits x) ⌝ }
+    ensures { λ r. ⌜ r ≡ takeUnits x ⌝ }
 {
-    hand_out(measure_units(x))
+    taken_of(measure_units(x))
 }
 
 // Takes a reading that arrives as a binary32 pattern.
 pub fn take_bits(bits: u32) -> Taken
-    ensures { λ r. ⌜ r ≡ takenOf (measureBits bits) ⌝ }
+    ensures { λ r. ⌜ r ≡ takeBits bits ⌝ }
 {
-    hand_out(measure_bits(bits))
+    taken_of(measure_bits(bits))
 }
 
 // One reading of a report, in single precision: as taken X/1024, as decoded s·e/2048, and taken less decoded.
@@ -87,7 +87,7 @@ pub fn report_reading(x: i32, s: i64, e: i64) -> Reading
     requires { ⌜ Reportable x s e ⌝ }
     ensures { λ r. ⌜ r ≡ reportReading x s e ⌝ }
 {
-    let taken = exact::taken_value(x);
+    let taken = exact::units_value(x);
     let decoded = exact::decoded_value(s, e);
     let difference = taken - decoded;
     Reading {

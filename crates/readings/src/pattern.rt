@@ -5,6 +5,16 @@ ghost use Prim.Native.Nat.{_≤_, _<_, _^_, _%_};
 ghost use Rattle.readings.specs.Fractions.{signed, nearest};
 ghost use Rattle.readings.specs.Taking.{measureUnits, measureBits};
 
+// The weight of a pattern's sign, and of the lowest digit of its exponent.
+pub(crate) const SIGN: u32 = 0x8000_0000;
+
+const EXPONENT: u32 = 0x80_0000;
+
+// The pattern of an infinity, past which a NaN's lie, and that of 32768.0.
+pub(crate) const INFINITY: u32 = 0x7f80_0000;
+
+pub(crate) const TOO_LARGE: u32 = 0x4700_0000;
+
 // n, or -n where the sign is set.
 fn with_sign(n: u32, negative: bool) -> i32
     requires { ⌜ n ≤ 2 ^ 27 ⌝ }
@@ -15,7 +25,7 @@ fn with_sign(n: u32, negative: bool) -> i32
 
 // What is taken off so that an exact half stays below: nothing where it is to go up.
 fn half_less(up: bool) -> u32
-    ensures { λ r. ⌜ r ≡ cond up 0 1 ⌝ }
+    ensures { λ r. ⌜ (r ≡ cond up 0 1) × (r ≤ 1) ⌝ }
 {
     if up { 0 } else { 1 }
 }
@@ -31,19 +41,19 @@ fn nearest_size(m: u32, k: u32, negative: bool) -> u32
     (m + m + p - half_less(negative)) >> (k + 1)
 }
 
-// The whole units nearest to the value of a pattern below 32768 in size. Below 2^-11 that is 0; from there on the value
-// in units is 2·digits/2^(141 - exponent).
+// The whole units nearest to the value of a pattern below 32768 in size. An exponent below 116 makes it less than half a
+// unit; with any other it is 2·digits/2^(141 - exponent) units.
 pub(crate) fn whole_units(bits: u32) -> i32
     requires { ⌜ bits % 2147483648 < 0x4700_0000 ⌝ }
     ensures { λ r. ⌜ measureUnits r ≡ measureBits bits ⌝ }
 {
-    let size = bits % 2147483648;
-    let exponent = size / 8388608;
+    let size = bits % SIGN;
+    let exponent = size / EXPONENT;
     if exponent < 116 {
         return 0;
     }
-    let digits = size % 8388608 + 8388608;
-    let negative = bits > 2147483647;
+    let digits = size % EXPONENT + EXPONENT;
+    let negative = bits >= SIGN;
     with_sign(
         nearest_size(digits + digits, 141 - exponent, negative),
         negative,

@@ -3,11 +3,9 @@ ghost use mathlib.Core.Path.{_≡_};
 ghost use Prim.Native.Nat.{_+_, _<_, _≤_, _^_};
 ghost use lib.IntN.{natAbs, _*ℤ_};
 ghost use lib.ListN.{length};
-ghost use lib.Ieee.{binary32, toBits};
-ghost use Rattle.readings.specs.Fractions.{fraction};
-ghost use Rattle.readings.specs.Taking.{measureBits};
-ghost use Rattle.readings.specs.Words.{wordAt, putWord};
+ghost use Rattle.readings.specs.Words.{wordAt, putWord, measureAt, putDecoded};
 
+// A byte as a word.
 fn wide(x: u8) -> u32
     ensures { λ r. ⌜ (r ≡ x) × (r < 256) ⌝ }
 {
@@ -30,13 +28,13 @@ pub fn put_word(b: &mut [u8], i: usize, w: u32)
     b[i] = (w % 256) as u8;
     b[i + 1] = (w / 256 % 256) as u8;
     b[i + 2] = (w / 65536 % 256) as u8;
-    b[i + 3] = (w / 16777216) as u8;
+    b[i + 3] = (w / 16777216 % 256) as u8;
 }
 
 // The reading whose binary32 pattern stands at i.
 pub fn measure_at(b: &[u8], i: usize) -> crate::Measured
     requires { ⌜ i + 4 ≤ length (now b) ⌝ }
-    ensures { λ r. ⌜ r ≡ measureBits (wordAt (now (b .entry)) i) ⌝ }
+    ensures { λ r. ⌜ r ≡ measureAt (now (b .entry)) i ⌝ }
 {
     crate::measure_bits(word_at(b, i))
 }
@@ -45,7 +43,7 @@ pub fn measure_at(b: &[u8], i: usize) -> crate::Measured
 pub fn put_decoded(b: &mut [u8], i: usize, s: i64, e: i64)
     requires { ⌜ i + 4 ≤ length (now b) ⌝ }
     requires { ⌜ natAbs (s *ℤ e) ≤ 2 ^ 24 ⌝ }
-    ensures { λ _. ⌜ now (b .exit) ≡ putWord (now (b .entry)) i (toBits binary32 (fraction (s *ℤ e) 2048)) ⌝ }
+    ensures { λ _. ⌜ now (b .exit) ≡ putDecoded (now (b .entry)) i s e ⌝ }
 {
     put_word(b, i, f32::to_bits(crate::exact::decoded_value(s, e)));
 }

@@ -1,22 +1,29 @@
-use borrow.Author.Needs.{needs}
+-- `report_reading` takes its numbers from exact floats, whose difference the law `report-subtracts` gives.
+use mathlib.Core.Path.{_∙_, ap, ap₂}
+use lib.IntN.{_*ℤ_}
+use lib.Ieee.{Float, binary32, sub}
+use mir.Facts.{toZ-ofZ}
+use Rattle.readings.specs.Fractions.{fraction}
+use Rattle.readings.specs.declared.Reading.{Reading}
+use Rattle.readings.specs.Laws.Report.{report-subtracts}
 use Rattle.readings.proofs.report_reading.Statement.{statement}
 use Rattle.readings.proofs.report_reading.Tie as tie
-use Rattle.readings.proofs.report_reading.Reads as reads
-use Rattle.readings.proofs.report_reading.Lts as lts
-use Rattle.readings.proofs.exact.decoded_value.Reads as decoded-value-reads
-use Rattle.readings.proofs.exact.taken_value.Reads as taken-value-reads
 
--- src/lib.rt:90:9
-taken-value-requires : tie.Need-taken-value-requires
-taken-value-requires c κs = search needs
+abbrev reading : Float → Float → Float → Reading
+reading x y z = record { taken = x; decoded = y; difference = z }
 
--- src/lib.rt:91:9
+units-value-requires : tie.Need-units-value-requires
+units-value-requires start κs = simp (toZ-ofZ, start .fits .x) (start .pre .taken)
+
 decoded-value-requires : tie.Need-decoded-value-requires
-decoded-value-requires c κs = search needs
+decoded-value-requires c κs = let start = c .before in simp (toZ-ofZ, start .fits .s, start .fits .e) (start .pre .decoded)
 
--- src/lib.rt:86:1
 returns : tie.Need-returns
-returns c = ?
+returns c =
+    let start = c .before .before in let a = start .args in
+    ap₂ (λ (x y : Float). reading x y (sub binary32 x y))
+    (simp (toZ-ofZ, start .fits .x) at (c .before .units-value .ensures)) (simp (toZ-ofZ, start .fits .s, start .fits .e) at (c .decoded-value .ensures))
+    ∙ ap (reading (fraction (a .x) 1024) (fraction (a .s *ℤ a .e) 2048)) (report-subtracts (a .x) (a .s) (a .e) (start .pre))
 
 pub report-reading-spec : {M : Type 1} → statement M
-report-reading-spec = tie.close (tie.spec taken-value-requires decoded-value-requires returns)
+report-reading-spec = tie.close (tie.spec units-value-requires decoded-value-requires returns)

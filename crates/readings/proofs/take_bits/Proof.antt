@@ -1,22 +1,19 @@
+-- `take_bits` hands out what `measure_bits` finds, whose units are in range.
 use borrow.Author.Needs.{needs}
+use mathlib.Core.Path.{sym, _∙_, ap, subst}
+use Rattle.readings.specs.Taking.{takenOf, InRange}
+use Rattle.readings.specs.Laws.Taking.{float-in-range}
 use Rattle.readings.proofs.take_bits.Statement.{statement}
 use Rattle.readings.proofs.take_bits.Tie as tie
-use Rattle.readings.proofs.take_bits.Reads as reads
-use Rattle.readings.proofs.take_bits.Lts as lts
-use Rattle.readings.proofs.hand_out.Reads as hand-out-reads
-use Rattle.readings.proofs.measure_bits.Reads as measure-bits-reads
 
--- src/lib.rt:75:14
 measure-bits-requires : tie.Need-measure-bits-requires
 measure-bits-requires c κs = search needs
 
--- src/lib.rt:75:5
-hand-out-requires : tie.Need-hand-out-requires
-hand-out-requires c κs = ?
+taken-of-requires : tie.Need-taken-of-requires
+taken-of-requires c κs = subst InRange (sym (c .measure-bits .ensures)) (float-in-range _)
 
--- src/lib.rt:72:1
 returns : tie.Need-returns
-returns c = ?
+returns c = c .taken-of .ensures ∙ ap takenOf (c .before .measure-bits .ensures)
 
 pub take-bits-spec : {M : Type 1} → statement M
-take-bits-spec = tie.close (tie.spec measure-bits-requires hand-out-requires returns)
+take-bits-spec = tie.close (tie.spec measure-bits-requires taken-of-requires returns)

@@ -11,18 +11,18 @@ use Rattle.readings.specs.Laws.Exact.{castable, cast-divided}
 use Rattle.readings.proofs.exact.decoded_value.Statement.{statement}
 use Rattle.readings.proofs.exact.decoded_value.Tie as tie
 
-product : (s : tie.Start) → SFits w64 (s .args .s *ℤ s .args .e)
-product s = fits-abs _ (omega (arith, s .pre))
+product : (start : tie.Start) → SFits w64 (start .args .s *ℤ start .args .e)
+product start = fits-abs _ (omega (arith, start .pre))
 
 mul-result : tie.Need-mul-result
-mul-result s = simp (toZ-ofZ, s .fits .s, s .fits .e) (product s)
+mul-result start = simp (toZ-ofZ, start .fits .s, start .fits .e) (product start)
 
 int-to-float-result : tie.Need-int-to-float-result
-int-to-float-result c = let s = c .before in simp (toZ-ofZ, s .fits .s, s .fits .e, product s) (castable _ (s .pre))
+int-to-float-result c = let start = c .before in simp (toZ-ofZ, start .fits .s, start .fits .e, product start) (castable _ (start .pre))
 
 returns : tie.Need-returns
 unfolding ofBits
-returns c = let s = c .before in simp (toZ-ofZ, s .fits .s, s .fits .e, product s) (cast-divided _ 11 1157627904 refl (s .pre))
+returns c = let start = c .before in simp (toZ-ofZ, start .fits .s, start .fits .e, product start) (cast-divided _ 11 0x4500_0000 refl (start .pre))
 
 pub decoded-value-spec : {M : Type 1} → statement M
 decoded-value-spec = tie.close (tie.spec mul-result int-to-float-result returns)

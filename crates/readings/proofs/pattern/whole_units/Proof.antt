@@ -1,38 +1,40 @@
+-- `whole_units` rounds to the nearest units: 0 below half a unit, else twice the digits over a power of two.
 use borrow.Author.Needs.{needs}
+use mathlib.Core.Path.{sym, _∙_, ap}
+use Prim.Native.Nat.{_-_, _/_, _%_}
+use native.Mathlib.Omega.{arith}
+use mir.Syntax.{w32}
+use mir.Val.{SFits}
+use mir.Facts.{toZ-ofZ}
+use Rattle.readings.specs.Taking.{measureUnits}
+use Rattle.readings.specs.Laws.Patterns.{pattern-small, pattern-shifted}
 use Rattle.readings.proofs.pattern.whole_units.Statement.{statement}
 use Rattle.readings.proofs.pattern.whole_units.Tie as tie
-use Rattle.readings.proofs.pattern.whole_units.Reads as reads
-use Rattle.readings.proofs.pattern.whole_units.Lts as lts
-use Rattle.readings.proofs.pattern.nearest_size.Reads as nearest-size-reads
-use Rattle.readings.proofs.pattern.with_sign.Reads as with-sign-reads
 
--- src/pattern.rt:43:9
 returns : tie.Need-returns
-returns c = ?
+returns c = sym (pattern-small (c .before .args .bits) (omega (arith, c .if1 .taken)))
 
--- src/pattern.rt:45:18
 add-digits : tie.Need-add-digits
 add-digits c = search needs
 
--- src/pattern.rt:48:22
 add-nearest-size : tie.Need-add-nearest-size
 add-nearest-size c = search needs
 
--- src/pattern.rt:48:39
 sub-nearest-size : tie.Need-sub-nearest-size
 sub-nearest-size c = search needs
 
--- src/pattern.rt:48:9
 nearest-size-requires : tie.Need-nearest-size-requires
 nearest-size-requires c κs = search needs
 
--- src/pattern.rt:47:5
 with-sign-requires : tie.Need-with-sign-requires
 with-sign-requires c κs = search needs
 
--- src/pattern.rt:36:1
 returns-2 : tie.Need-returns-2
-returns-2 c = ?
+returns-2 c =
+    let bits = c .before .before .before .args .bits in
+    let fits : SFits w32 (c .with-sign .result) = record { sfits = c .with-sign .ok } in
+    ap measureUnits (toZ-ofZ fits ∙ c .with-sign .ensures ∙ c .before .nearest-size .ensures .1)
+    ∙ sym (pattern-shifted bits (141 - bits % 2147483648 / 8388608) (omega arith) (omega arith) (omega arith))
 
 pub whole-units-spec : {M : Type 1} → statement M
 whole-units-spec =

@@ -1,60 +1,57 @@
+-- `put_word` sets four bytes in a row, which is a part of the list replaced.
 use borrow.Author.Needs.{needs}
+use mathlib.Core.Path.{_≡_}
+use Prim.Native.Nat.{suc, _+_}
+use native.Mathlib.Omega.{arith}
+use lib.ListN.{length-set}
+use lib.Seq.{sets-eq}
+use Rattle.readings.specs.Words.{bytesOf}
 use Rattle.readings.proofs.words.put_word.Statement.{statement}
 use Rattle.readings.proofs.words.put_word.Tie as tie
-use Rattle.readings.proofs.words.put_word.Reads as reads
-use Rattle.readings.proofs.words.put_word.Lts as lts
 
--- src/words.rt:30:12
 cast-b : tie.Need-cast-b
 cast-b c = search needs
 
--- src/words.rt:30:5
 slice-write-b : tie.Need-slice-write-b
 slice-write-b c = search needs
 
--- src/words.rt:31:16
 cast-b-2 : tie.Need-cast-b-2
 cast-b-2 c = search needs
 
--- src/words.rt:31:7
 add-b : tie.Need-add-b
 add-b c = search needs
 
--- src/words.rt:31:5
 slice-write-b-2 : tie.Need-slice-write-b-2
-slice-write-b-2 c = ?
+slice-write-b-2 c = simp length-set (omega arith)
 
--- src/words.rt:32:16
 cast-b-3 : tie.Need-cast-b-3
 cast-b-3 c = search needs
 
--- src/words.rt:32:7
 add-b-2 : tie.Need-add-b-2
 add-b-2 c = search needs
 
--- src/words.rt:32:5
 slice-write-b-3 : tie.Need-slice-write-b-3
-slice-write-b-3 c = ?
+slice-write-b-3 c = simp length-set (omega arith)
 
--- src/words.rt:33:16
 cast-b-4 : tie.Need-cast-b-4
 cast-b-4 c = search needs
 
--- src/words.rt:33:7
 add-b-3 : tie.Need-add-b-3
 add-b-3 c = search needs
 
--- src/words.rt:33:5
 slice-write-b-4 : tie.Need-slice-write-b-4
-slice-write-b-4 c = ?
+slice-write-b-4 c = simp length-set (omega arith)
 
--- src/words.rt:26:1
 same-length : tie.Need-same-length
 same-length c = search needs
 
--- src/words.rt:26:1
 returns : tie.Need-returns
-returns c = ?
+returns c =
+    let i = c .args .i in
+    let one : i + 1 ≡ suc i = omega arith in
+    let two : i + 2 ≡ suc (suc i) = omega arith in
+    let three : i + 3 ≡ suc (suc (suc i)) = omega arith in
+    rw (one, two, three) (sets-eq (bytesOf (c .args .w)) (c .args .b .now) i (c .pre))
 
 pub put-word-spec : {M : Type 1} → statement M
 put-word-spec =
