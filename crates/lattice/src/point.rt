@@ -1,8 +1,7 @@
 // The nearest point: the nearest of each half, and the closer of the two.
 ghost use mathlib.Core.Path.{_≡_};
+ghost use mathlib.Core.Bool.{cond};
 ghost use Prim.Native.Nat.{_^_};
-ghost use lib.IntN.{pos, natAbs};
-ghost use lib.Signed.{_≤ℤ_};
 ghost use Rattle.integers.specs.Vectors.{dot, Sized};
 ghost use Rattle.lattice.specs.Computed.{lower, spread, nearestPoint};
 ghost use Rattle.lattice.specs.Rounding.{Divisor, ahead};
@@ -51,15 +50,23 @@ fn lower(d: &[i64; 8], s: i64) -> [i64; 8]
     r
 }
 
-// Twice f, plus p in every coordinate.
-fn spread(f: &[i64; 8], p: i64) -> [i64; 8]
-    requires { ⌜ Sized 8 (2 ^ 32) (now f) × (pos 0 ≤ℤ p) × (p ≤ℤ pos 1) ⌝ }
-    ensures { λ r. ⌜ r ≡ spread (natAbs p) (now (f .entry)) ⌝ }
+// The first of two numbers, or the second. (A value and no jump: which half is closer cannot be foreseen.)
+fn either(first: bool, x: i64, y: i64) -> i64
+    ensures { λ r. ⌜ r ≡ cond first x y ⌝ }
 {
+    if first { x } else { y }
+}
+
+// The closer half, doubled: twice f where it is the even one, twice g plus 1 else.
+fn spread(even: bool, f: &[i64; 8], g: &[i64; 8]) -> [i64; 8]
+    requires { ⌜ Sized 8 (2 ^ 32) (now f) × Sized 8 (2 ^ 32) (now g) ⌝ }
+    ensures { λ r. ⌜ r ≡ cond even (spread 0 (now (f .entry))) (spread 1 (now (g .entry))) ⌝ }
+{
+    let p = either(even, 0, 1);
     let mut r: [i64; 8] = [0; 8];
     let mut i: usize = 0;
     while i < 8 {
-        r[i] = 2 * f[i] + p;
+        r[i] = 2 * either(even, f[i], g[i]) + p;
         i = i + 1;
     }
     r
@@ -78,9 +85,5 @@ pub fn nearest_point(d: &[i64; 8], s: i64) -> [i64; 8]
     let h = o.f;
     let a = e.rests;
     let b = o.rests;
-    if closer(&a, &b, g[0], h[0]) {
-        spread(&g, 0)
-    } else {
-        spread(&h, 1)
-    }
+    spread(closer(&a, &b, g[0], h[0]), &g, &h)
 }

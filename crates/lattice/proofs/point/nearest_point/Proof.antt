@@ -1,7 +1,7 @@
 -- `nearest_point` takes the closer half: of both halves and what they leave, `nearestPoint-code` says which is the nearest point.
 use borrow.Author.Needs.{needs}
 use mathlib.Core.Path.{_≡_, sym, _∙_, ap}
-use mathlib.Core.Bool.{Bool, cond}
+use mathlib.Core.Bool.{cond}
 use mathlib.Core.List.{List}
 use Prim.Native.Nat.{_+_, _^_}
 use native.Mathlib.Omega.{arith}
@@ -57,9 +57,6 @@ closer-requires c κs = search needs
 spread-requires : tie.Need-spread-requires
 spread-requires c κs = search needs
 
-spread-requires-2 : tie.Need-spread-requires-2
-spread-requires-2 c κs = search needs
-
 -- the choice between the halves, g and h, of which A and B are left
 module _ (c : tie.After-closer) where
   abbrev o : tie.After-nearest-d2
@@ -110,14 +107,11 @@ module _ (c : tie.After-closer) where
   tested : c .closer .result ≡ ahead (dot A A) (dot B B) (toZ w64 (ofZ w64 («at» g 0))) (toZ w64 (ofZ w64 («at» h 0)))
   tested = c .closer .ensures
 
-  chosen : {t : Bool} → c .closer .result ≡ t → nearestPoint s d ≡ cond t (spread 0 g) (spread 1 h)
-  chosen p = let x = fg in let y = fh in nearestPoint-code s (twice-pos s (b .pre .0 .least) .2) d (b .pre .1 .long) g-is h-is A-is B-is (sym p ∙ simp (toZ-ofZ, x, y) at tested)
+  chosen : nearestPoint s d ≡ cond (c .closer .result) (spread 0 g) (spread 1 h)
+  chosen = let x = fg in let y = fh in nearestPoint-code s (twice-pos s (b .pre .0 .least) .2) d (b .pre .1 .long) g-is h-is A-is B-is (simp (toZ-ofZ, x, y) at tested)
 
 returns : tie.Need-returns
-returns c = rw (chosen (c .before .before .before) (c .before .before .if1 .taken)) (c .spread .ensures)
-
-returns-2 : tie.Need-returns-2
-returns-2 c = rw (chosen (c .before .before .before) (c .before .before .if1 .left)) (c .spread2 .ensures)
+returns c = c .spread .ensures ∙ sym (chosen (c .before .before .before))
 
 pub nearest-point-spec : {M : Type 1} → statement M
 nearest-point-spec =
@@ -131,6 +125,4 @@ nearest-point-spec =
     array-copy-out-closer-2
     closer-requires
     spread-requires
-    spread-requires-2
-    returns
-    returns-2)
+    returns)
