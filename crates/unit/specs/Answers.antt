@@ -1,7 +1,14 @@
 -- Answers as C takes them: the number and place of the verdict, then the values.
+use Rattle.readings.specs.declared.Taken.{Taken}
+use Rattle.readings.specs.Taking.{takenNumber, takenValue}
 use Rattle.refusals.specs.Verdicts.{numberOf, placeOf}
 use Rattle.lattice.specs.declared.PointAnswer.{PointAnswer}
 use Rattle.unit.specs.declared.EkPoint.{EkPoint}
+use Rattle.unit.specs.declared.EkTaken.{EkTaken}
+
+-- a taken reading
+abbrev pub takenOut : Taken → EkTaken
+takenOut t = record { number = takenNumber t; value = takenValue t }
 
 -- a doubled point
 abbrev pub pointOut : PointAnswer → EkPoint

@@ -1,8 +1,17 @@
 // The C library: each function a few lines over the floors below. include/enkhovrag.h describes them to their callers.
 ghost use mathlib.Core.Path.{_≡_};
+ghost use Rattle.readings.specs.Taking.{takeBits, takeUnits};
 ghost use Rattle.lattice.specs.Answers.{nearest};
-ghost use Rattle.unit.specs.Answers.{pointOut};
+ghost use Rattle.unit.specs.Answers.{takenOut, pointOut};
 use lattice::PointAnswer;
+use readings::Taken;
+
+// A reading as taken: number 0 and its value, or 4 (missing) or 5 (out of range) and 0.0.
+#[repr(C)]
+pub struct EkTaken {
+    pub number: u64,
+    pub value: f32,
+}
 
 // A doubled point: number 0, or a refusal's number and place and zeros.
 #[repr(C)]
@@ -12,7 +21,40 @@ pub struct EkPoint {
     pub e: [i32; 8],
 }
 
-// An answer as C takes it.
+// A taken reading as C takes it.
+fn taken_out(t: Taken) -> EkTaken
+    ensures { λ r. ⌜ r ≡ takenOut t ⌝ }
+{
+    match t {
+        Taken::Value(value) => EkTaken { number: 0, value },
+        Taken::Missing => EkTaken {
+            number: 4,
+            value: 0.0,
+        },
+        Taken::OutOfRange => EkTaken {
+            number: 5,
+            value: 0.0,
+        },
+    }
+}
+
+// Takes a reading that arrives as a binary32 pattern (01, Readings and units).
+#[no_mangle]
+pub extern "C" fn ek_take_bits(bits: u32) -> EkTaken
+    ensures { λ r. ⌜ r ≡ takenOut (takeBits bits) ⌝ }
+{
+    taken_out(readings::take_bits(bits))
+}
+
+// Takes a reading that arrives as whole units of 1/1024.
+#[no_mangle]
+pub extern "C" fn ek_take_units(x: i32) -> EkTaken
+    ensures { λ r. ⌜ r ≡ takenOut (takeUnits x) ⌝ }
+{
+    taken_out(readings::take_units(x))
+}
+
+// A point as C takes it.
 fn point_out(a: PointAnswer) -> EkPoint
     ensures { λ r. ⌜ r ≡ pointOut a ⌝ }
 {
