@@ -79,11 +79,11 @@ pub fn nearest_point(d: &[i64; 8], s: i64) -> [i64; 8]
 {
     let w = coordinate::reciprocal(s);
     let l = lower(d, s);
-    let e = half::nearest_d(d, s, w);
-    let o = half::nearest_d(&l, s, w);
-    let g = e.f;
-    let h = o.f;
-    let a = e.rests;
-    let b = o.rests;
-    spread(closer(&a, &b, g[0], h[0]), &g, &h)
+    let mut f: [i64; 8] = [0; 8];
+    let mut a: [i64; 8] = [0; 8];
+    half::nearest_d(d, s, w, &mut f, &mut a);
+    let mut g: [i64; 8] = [0; 8];
+    let mut b: [i64; 8] = [0; 8];
+    half::nearest_d(&l, s, w, &mut g, &mut b);
+    spread(closer(&a, &b, f[0], g[0]), &f, &g)
 }

@@ -14,7 +14,7 @@ use lib.Signed.{_<ℤ_, ltZ}
 use Rattle.integers.specs.Laws.Difference.{ints, byD₄}
 use Rattle.integers.specs.Laws.Sizes.{abs-add, abs-sub, abs-mul, abs-mul-le}
 use Rattle.integers.specs.Laws.Sums.{at-map, sized-map, sized-set}
-use Rattle.integers.specs.Vectors.{square, «at», sumV, dot, Sized}
+use Rattle.integers.specs.Vectors.{square, «at», sumV, dot, Sized, within, small}
 use Rattle.lattice.specs.Computed.{nearestD}
 use Rattle.lattice.specs.Doubled.{par}
 use Rattle.lattice.specs.Laws.Dn.{Summed, nearestD-least}
@@ -105,7 +105,7 @@ module _ {s : ℤ} {v f r : List ℤ} {j : ℕ} {t : ℤ} (m : Found s v f r j t
   mended-rests = rw (m .leaves, m .rounded, rests-set S t v (map (round S) v) j, rests-rounds S v)
 
   -- how large the step, its product and the two entries that it makes are
-  pub step-small : natAbs t ≤ 1
+  step-small : natAbs t ≤ 1
   step-small = rw (m .step) (go (eqb (par (sumV f)) 1) (ltZ (pos 0) («at» r j)))
     where
       go : (b p : Bool) → natAbs (cond b (cond p (pos 1) (negsuc 0)) (pos 0)) ≤ 1
@@ -119,13 +119,13 @@ module _ {s : ℤ} {v f r : List ℤ} {j : ℕ} {t : ℤ} (m : Found s v f r j t
   r-sized : Sized 8 (2 ^ 14) r
   r-sized = rw (m .leaves) (lefts-sized s (m .divisor) v (m .sized))
 
-  entry-small : natAbs («at» f j +ℤ t) ≤ 2 ^ 32
+  pub entry-small : natAbs («at» f j +ℤ t) ≤ 2 ^ 32
   entry-small = omega (arith, abs-add («at» f j) t, f-sized .small j, step-small)
 
   pub product-small : natAbs (S *ℤ t) ≤ 2 ^ 15
   product-small = omega (arith, abs-mul-le S t {m = 2 ^ 15} {n = 1} (omega (arith, abs-mul (pos 2) s, m .divisor .most)) step-small)
 
-  rest-small : natAbs («at» r j -ℤ S *ℤ t) ≤ 2 ^ 16
+  pub rest-small : natAbs («at» r j -ℤ S *ℤ t) ≤ 2 ^ 16
   rest-small = omega (arith, abs-sub («at» r j) (S *ℤ t), r-sized .small j, product-small)
 
   pub mended-sized : Sized 8 (2 ^ 32) (set f j («at» f j +ℤ t))

@@ -1,4 +1,4 @@
--- `rests` fills its result by what the rounding leaves of each entry.
+-- `rests` fills r by what the rounding leaves of each entry.
 use mathlib.Core.Path.{_≡_, refl, _∙_, ap}
 use mathlib.Core.List.{List}
 use Prim.Native.Nat.{ℕ, _-_, _≤_}
@@ -17,10 +17,10 @@ use Rattle.lattice.proofs.half.rests.Statement.{statement}
 use Rattle.lattice.proofs.half.rests.Tie as tie
 
 abbrev Inv-loop : tie.InvT-loop
-Inv-loop v f s m r₀ i₀ r i = Filled (left (pos 2 *ℤ toZ w64 s)) 8 v i r
+Inv-loop v f s r₀ m i₀ r i = Filled (left (pos 2 *ℤ toZ w64 s)) 8 v i r
 
 abbrev μ-loop : tie.MeasureT-loop
-μ-loop v f s m r₀ i₀ r i = 8 - i
+μ-loop v f s r₀ m i₀ r i = 8 - i
 
 fm : (c : tie.Start Inv-loop μ-loop) → SFits w64 (c .args .s +ℤ c .args .s)
 fm c = fits-add (c .args .s) (c .args .s) (omega (arith, c .pre .0 .most))
@@ -66,7 +66,7 @@ add-m : tie.Need-add-m Inv-loop μ-loop
 add-m c = simp (toZ-ofZ, c .fits .s) (fm c)
 
 loop-holds : tie.Need-loop-holds Inv-loop μ-loop
-loop-holds c = record { within = omega arith; long = refl; same = refl }
+loop-holds c = record { within = omega arith; long = c .pre .3; same = refl }
 
 mul-r : tie.Need-mul-r Inv-loop μ-loop
 mul-r c = omega arith
@@ -86,11 +86,11 @@ mul-r-3 c = let l = c .before .before in simp (toZ-ofZ, b l .fits .s, fm (b l), 
 sub-r : tie.Need-sub-r Inv-loop μ-loop
 sub-r c = let l = c .before .before in simp (toZ-ofZ, b l .fits .s, fm (b l), fx l, fy l, fmy l) (fr l)
 
-mul-r-4 : tie.Need-mul-r-4 Inv-loop μ-loop
-mul-r-4 c = omega arith
+mul-t18 : tie.Need-mul-t18 Inv-loop μ-loop
+mul-t18 c = omega arith
 
-array-set-from-r : tie.Need-array-set-from-r Inv-loop μ-loop
-array-set-from-r c = omega arith
+element-set-from-r : tie.Need-element-set-from-r Inv-loop μ-loop
+element-set-from-r c = omega arith
 
 add-i : tie.Need-add-i Inv-loop μ-loop
 add-i c = omega arith
@@ -119,8 +119,8 @@ rests-spec =
     element-copy-out-r-2
     mul-r-3
     sub-r
-    mul-r-4
-    array-set-from-r
+    mul-t18
+    element-set-from-r
     add-i
     loop-less
     loop-again

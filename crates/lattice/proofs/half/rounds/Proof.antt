@@ -1,4 +1,4 @@
--- `rounds` fills its result by the rounding of each entry.
+-- `rounds` fills f by the rounding of each entry.
 use mathlib.Core.Path.{refl}
 use Prim.Native.Nat.{_-_}
 use native.Mathlib.Omega.{arith}
@@ -14,10 +14,10 @@ use Rattle.lattice.proofs.half.rounds.Statement.{statement}
 use Rattle.lattice.proofs.half.rounds.Tie as tie
 
 abbrev Inv-loop : tie.InvT-loop
-Inv-loop v s w r₀ i₀ r i = Filled (round (pos 2 *ℤ toZ w64 s)) 8 v i r
+Inv-loop v s w f₀ i₀ f i = Filled (round (pos 2 *ℤ toZ w64 s)) 8 v i f
 
 abbrev μ-loop : tie.MeasureT-loop
-μ-loop v s w r₀ i₀ r i = 8 - i
+μ-loop v s w f₀ i₀ f i = 8 - i
 
 module _ (l : tie.In-loop Inv-loop μ-loop) where
   abbrev b : tie.Start Inv-loop μ-loop
@@ -30,7 +30,7 @@ module _ (l : tie.In-loop Inv-loop μ-loop) where
   fx = fits-abs x (omega (arith, b .pre .1 .small (l .before .loop .i)))
 
 loop-holds : tie.Need-loop-holds Inv-loop μ-loop
-loop-holds c = record { within = omega arith; long = refl; same = refl }
+loop-holds c = record { within = omega arith; long = c .pre .3; same = refl }
 
 mul-round : tie.Need-mul-round Inv-loop μ-loop
 mul-round c = omega arith
@@ -41,11 +41,11 @@ element-copy-out-round c = omega arith
 round-requires : tie.Need-round-requires Inv-loop μ-loop
 round-requires c κs = let l = c .before in let s = b l in simp (toZ-ofZ, s .fits .s, s .fits .w, fx l) (s .pre .0, s .pre .1 .small (l .before .loop .i), s .pre .2)
 
-mul-r : tie.Need-mul-r Inv-loop μ-loop
-mul-r c = omega arith
+mul-t12 : tie.Need-mul-t12 Inv-loop μ-loop
+mul-t12 c = omega arith
 
-array-set-from-r : tie.Need-array-set-from-r Inv-loop μ-loop
-array-set-from-r c = omega arith
+element-set-from-f : tie.Need-element-set-from-f Inv-loop μ-loop
+element-set-from-f c = omega arith
 
 add-i : tie.Need-add-i Inv-loop μ-loop
 add-i c = omega arith
@@ -71,8 +71,8 @@ rounds-spec =
     mul-round
     element-copy-out-round
     round-requires
-    mul-r
-    array-set-from-r
+    mul-t12
+    element-set-from-f
     add-i
     loop-less
     loop-again

@@ -1,6 +1,6 @@
 -- `nearest_point` takes the closer half: of both halves and what they leave, `nearestPoint-code` says which is the nearest point.
 use borrow.Author.Needs.{needs}
-use mathlib.Core.Path.{_≡_, sym, _∙_, ap}
+use mathlib.Core.Path.{_≡_, refl, sym, _∙_, ap}
 use mathlib.Core.Bool.{cond}
 use mathlib.Core.List.{List}
 use Prim.Native.Nat.{_+_, _^_}
@@ -39,11 +39,11 @@ module _ (c : tie.After-lower) where
   lowered = simp (toZ-ofZ, b₀ .fits .s) at (c .lower .ensures)
 
 nearest-d-requires : tie.Need-nearest-d-requires
-nearest-d-requires c κs = let b = b₀ c in simp (toZ-ofZ, b .fits .s, fw c) (b .pre .0, sized-more 8 _ (b .args .d .now) (b .pre .1) (2 ^ 30 + 2 ^ 14) (omega arith), w-is c)
+nearest-d-requires c κs = let l = c .before .before in let b = b₀ l in simp (toZ-ofZ, b .fits .s, fw l) (b .pre .0, sized-more 8 _ (b .args .d .now) (b .pre .1) (2 ^ 30 + 2 ^ 14) (omega arith), w-is l, refl, refl)
 
 nearest-d-requires-2 : tie.Need-nearest-d-requires-2
-nearest-d-requires-2 c κs = let l = c .before .before in let b = b₀ l in
-    simp (toZ-ofZ, b .fits .s, fw l) (b .pre .0, rw (lowered l) (lower-sized (b .args .s) (b .pre .0) (b .args .d .now) (b .pre .1)), w-is l)
+nearest-d-requires-2 c κs = let l = c .before .before .before .before .before .before in let b = b₀ l in
+    simp (toZ-ofZ, b .fits .s, fw l) (b .pre .0, rw (lowered l) (lower-sized (b .args .s) (b .pre .0) (b .args .d .now) (b .pre .1)), w-is l, refl, refl)
 
 array-copy-out-closer : tie.Need-array-copy-out-closer
 array-copy-out-closer c = search needs
@@ -57,16 +57,19 @@ closer-requires c κs = search needs
 spread-requires : tie.Need-spread-requires
 spread-requires c κs = search needs
 
--- the choice between the halves, g and h, of which A and B are left
+-- the choice between the halves, f and g, of which A and B are left
 module _ (c : tie.After-closer) where
   abbrev o : tie.After-nearest-d2
-  o = c .before .before .before .before .before .before .before .before .before
+  o = c .before .before .before .before .before
 
   abbrev e : tie.After-nearest-d
-  e = o .before .before
+  e = o .before .before .before .before
+
+  abbrev l : tie.After-lower
+  l = e .before .before .before
 
   abbrev b : tie.Start
-  b = e .before .before .before
+  b = b₀ l
 
   abbrev s : ℤ
   s = b .args .s
@@ -74,41 +77,41 @@ module _ (c : tie.After-closer) where
   abbrev d : List ℤ
   d = b .args .d .now
 
-  abbrev g : List ℤ
-  g = e .nearest-d .result .f
+  abbrev f : List ℤ
+  f = e .nearest-d .last .1 .1 .1 .0
 
-  abbrev h : List ℤ
-  h = o .nearest-d2 .result .f
+  abbrev g : List ℤ
+  g = o .nearest-d2 .last .1 .1 .1 .0
 
   abbrev A : List ℤ
-  A = e .nearest-d .result .rests
+  A = e .nearest-d .last .1 .1 .1 .1 .0
 
   abbrev B : List ℤ
-  B = o .nearest-d2 .result .rests
+  B = o .nearest-d2 .last .1 .1 .1 .1 .0
 
-  g-is : g ≡ nearestD (pos 2 *ℤ s) d
-  g-is = simp (toZ-ofZ, b .fits .s) at (e .nearest-d .ensures .0)
+  f-is : f ≡ nearestD (pos 2 *ℤ s) d
+  f-is = simp (toZ-ofZ, b .fits .s) at (e .nearest-d .ensures .0)
 
-  h-is : h ≡ nearestD (pos 2 *ℤ s) (lower s 1 d)
-  h-is = (simp (toZ-ofZ, b .fits .s) at (o .nearest-d2 .ensures .0)) ∙ ap (nearestD (pos 2 *ℤ s)) (lowered (e .before))
+  g-is : g ≡ nearestD (pos 2 *ℤ s) (lower s 1 d)
+  g-is = (simp (toZ-ofZ, b .fits .s) at (o .nearest-d2 .ensures .0)) ∙ ap (nearestD (pos 2 *ℤ s)) (lowered l)
 
-  A-is : A ≡ rests (pos 2 *ℤ s) d g
+  A-is : A ≡ rests (pos 2 *ℤ s) d f
   A-is = simp (toZ-ofZ, b .fits .s) at (e .nearest-d .ensures .1)
 
-  B-is : B ≡ rests (pos 2 *ℤ s) (lower s 1 d) h
-  B-is = (simp (toZ-ofZ, b .fits .s) at (o .nearest-d2 .ensures .1)) ∙ ap (λ (v : List ℤ). rests (pos 2 *ℤ s) v h) (lowered (e .before))
+  B-is : B ≡ rests (pos 2 *ℤ s) (lower s 1 d) g
+  B-is = (simp (toZ-ofZ, b .fits .s) at (o .nearest-d2 .ensures .1)) ∙ ap (λ (v : List ℤ). rests (pos 2 *ℤ s) v g) (lowered l)
+
+  ff : SFits w64 («at» f 0)
+  ff = fits-abs _ (omega (arith, e .nearest-d .ensures .2 .small 0))
 
   fg : SFits w64 («at» g 0)
-  fg = fits-abs _ (omega (arith, e .nearest-d .ensures .2 .small 0))
+  fg = fits-abs _ (omega (arith, o .nearest-d2 .ensures .2 .small 0))
 
-  fh : SFits w64 («at» h 0)
-  fh = fits-abs _ (omega (arith, o .nearest-d2 .ensures .2 .small 0))
-
-  tested : c .closer .result ≡ ahead (dot A A) (dot B B) (toZ w64 (ofZ w64 («at» g 0))) (toZ w64 (ofZ w64 («at» h 0)))
+  tested : c .closer .result ≡ ahead (dot A A) (dot B B) (toZ w64 (ofZ w64 («at» f 0))) (toZ w64 (ofZ w64 («at» g 0)))
   tested = c .closer .ensures
 
-  chosen : nearestPoint s d ≡ cond (c .closer .result) (spread 0 g) (spread 1 h)
-  chosen = let x = fg in let y = fh in nearestPoint-code s (twice-pos s (b .pre .0 .least) .2) d (b .pre .1 .long) g-is h-is A-is B-is (simp (toZ-ofZ, x, y) at tested)
+  chosen : nearestPoint s d ≡ cond (c .closer .result) (spread 0 f) (spread 1 g)
+  chosen = let x = ff in let y = fg in nearestPoint-code s (twice-pos s (b .pre .0 .least) .2) d (b .pre .1 .long) f-is g-is A-is B-is (simp (toZ-ofZ, x, y) at tested)
 
 returns : tie.Need-returns
 returns c = c .spread .ensures ∙ sym (chosen (c .before .before .before))
