@@ -1,0 +1,45 @@
+//! The comparison: groups of inputs on which both programs must give the same answer and leave the same buffers.
+//!
+//! An exported function joins with its declaration in `boundary`, a file of its groups here, and their name in `main`.
+
+pub mod nearest;
+pub mod taking;
+
+use std::fmt::Debug;
+
+/// The number of differences that a group prints.
+const PRINTED: u64 = 5;
+
+/// What a group does with an amount of work.
+pub type Work = fn(&mut Group, u64);
+
+/// A group of comparisons: its name and what came of it.
+pub struct Group {
+    name: &'static str,
+    comparisons: u64,
+    differences: u64,
+}
+
+impl Group {
+    /// Does a group's work, prints its line, and says whether no answer differed.
+    pub fn passes(name: &'static str, work: Work, amount: u64) -> bool {
+        let mut group = Group { name, comparisons: 0, differences: 0 };
+        work(&mut group, amount);
+        println!("{}: {} comparisons", group.name, group.comparisons);
+        if group.differences > 0 {
+            println!("{}: {} DIFFERENCES", group.name, group.differences);
+        }
+        group.differences == 0
+    }
+
+    /// Compares what both programs answered and left behind for one input.
+    pub fn compare<A: PartialEq + Debug>(&mut self, input: &dyn Debug, expected: A, library: A) {
+        self.comparisons += 1;
+        if expected != library {
+            self.differences += 1;
+            if self.differences <= PRINTED {
+                println!("{}: input {input:?}\n  expected {expected:?}\n  library  {library:?}", self.name);
+            }
+        }
+    }
+}
