@@ -8,10 +8,14 @@
 
 typedef ek_taken take_fn(uint32_t);
 typedef ek_point nearest_fn(const int32_t *, size_t, int32_t);
+typedef ek_point code_fn(int32_t, int32_t, const int32_t *, size_t, uint8_t *, size_t);
+typedef ek_point decode_fn(int32_t, int32_t, const uint8_t *, size_t);
 
 #define C_VERSIONS(cc) \
     take_fn cc##_take_double, cc##_take_shift; \
-    nearest_fn cc##_same, cc##_plain;
+    nearest_fn cc##_same, cc##_plain; \
+    code_fn cc##_digits_of_point; \
+    decode_fn cc##_point_of_digits;
 C_VERSIONS(gcc)
 #ifdef CLANG
 C_VERSIONS(clang)
@@ -20,6 +24,7 @@ C_VERSIONS(clang)
 enum { BLOCKS = 4096, ROUNDS = 200 };
 
 static int32_t input[BLOCKS][8];
+static uint8_t digits[BLOCKS][32];
 static uint32_t patterns[8 * BLOCKS];
 static volatile double sink;
 static uint64_t state = 88172645463325252ULL;
@@ -135,10 +140,88 @@ static void nearest_point(int32_t s, int32_t most) {
     compare(job, ways, sizeof ways / sizeof *ways);
 }
 
+/* ---- decoding and coding a point */
+
+static int32_t q, m;
+
+#define DECODE_RUN(f) \
+    static double run_##f(void) { \
+        double start = now(); \
+        int64_t sum = 0; \
+        for (int i = 0; i < BLOCKS; i++) sum += f(q, m, digits[i], 8 * m).e[3]; \
+        sink += sum; \
+        return (now() - start) / BLOCKS; \
+    }
+
+#define CODE_RUN(f) \
+    static double run_##f(void) { \
+        double start = now(); \
+        int64_t sum = 0; \
+        for (int i = 0; i < BLOCKS; i++) sum += f(q, m, input[i], 8, digits[i], 32).e[3]; \
+        sink += sum; \
+        return (now() - start) / BLOCKS; \
+    }
+
+DECODE_RUN(ek_point_of_digits)
+DECODE_RUN(gcc_point_of_digits)
+CODE_RUN(ek_digits_of_point)
+CODE_RUN(gcc_digits_of_point)
+#ifdef CLANG
+DECODE_RUN(clang_point_of_digits)
+CODE_RUN(clang_digits_of_point)
+#endif
+
+static void whole_decoding(int32_t base, int32_t layers) {
+    char job[64];
+    q = base;
+    m = layers;
+    for (int i = 0; i < BLOCKS; i++) {
+        for (int j = 0; j < 8 * m; j++) digits[i][j] = next() % q;
+        ek_point a = ek_point_of_digits(q, m, digits[i], 8 * m), b = gcc_point_of_digits(q, m, digits[i], 8 * m);
+        if (memcmp(&a, &b, sizeof a) != 0) printf("whole decoding DIFFERS at block %d\n", i);
+    }
+    struct way ways[] = {
+        {"library", run_ek_point_of_digits, 0},
+        {"gcc -O3", run_gcc_point_of_digits, 0},
+#ifdef CLANG
+        {"clang -O3", run_clang_point_of_digits, 0},
+#endif
+    };
+    snprintf(job, sizeof job, "whole decoding, q = %d, M = %d", q, m);
+    compare(job, ways, sizeof ways / sizeof *ways);
+}
+
+static void coding(int32_t base, int32_t layers, int32_t most) {
+    char job[64];
+    q = base;
+    m = layers;
+    for (int i = 0; i < BLOCKS; i++) {
+        uint8_t other[32];
+        int32_t d[8];
+        for (int j = 0; j < 8; j++) d[j] = (int32_t)(next() % (2 * (uint64_t)most + 1)) - most;
+        memcpy(input[i], ek_nearest(d, 8, 1).e, sizeof input[i]);
+        memcpy(other, digits[i], sizeof other);
+        ek_point a = ek_digits_of_point(q, m, input[i], 8, digits[i], 32), b = gcc_digits_of_point(q, m, input[i], 8, other, 32);
+        if (memcmp(&a, &b, sizeof a) != 0 || memcmp(digits[i], other, sizeof other) != 0) printf("coding a point DIFFERS at block %d\n", i);
+    }
+    struct way ways[] = {
+        {"library", run_ek_digits_of_point, 0},
+        {"gcc -O3", run_gcc_digits_of_point, 0},
+#ifdef CLANG
+        {"clang -O3", run_clang_digits_of_point, 0},
+#endif
+    };
+    snprintf(job, sizeof job, "coding a point, q = %d, M = %d", q, m);
+    compare(job, ways, sizeof ways / sizeof *ways);
+}
+
 int main(void) {
     taking();
     nearest_point(37, 20000);
     nearest_point(1, 1000);
     nearest_point(1024, 67108864);
+    whole_decoding(2, 4);
+    whole_decoding(16, 3);
+    coding(16, 3, 8000);
     return 0;
 }

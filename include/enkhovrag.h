@@ -43,6 +43,18 @@ typedef struct {
  * Refuses 3 (place 0) if d_len is not 8; 9 (place 0) if some d[i] is past 2^26 in magnitude or s is not 1 to 1024. */
 ek_point ek_nearest(const int32_t *d, size_t d_len, int32_t s);
 
+/* Codes the doubled point e: writes its 8m digits, each below q, to the front of out, layer 0 first, and answers what is left over
+ * after m layers: e is the point of the digits plus q^m times the answer. No point is refused for what is left over. Bytes of out
+ * past 8m stay; a refusal leaves all of out as found.
+ * Refuses 1 (place 0) unless q is 2 to 16, m is 1 to 4 and q^m is at most 4096; 3 (place 0) if e_len is not 8; 3 (place 1) if
+ * out_len is below 8m; 9 (place 0) if some e[i] is past 2^26 in magnitude or e is not a doubled point of E8. */
+ek_point ek_digits_of_point(int32_t q, int32_t m, const int32_t *e, size_t e_len, uint8_t *out, size_t out_len);
+
+/* The doubled point of 8m digits, layer 0 first: the sum of q^k times the layer point of layer k.
+ * Refuses 1 (place 0) as ek_digits_of_point does; 3 (place 0) if digits_len is not 8m; 7 (place i) if digits[i] is the first digit
+ * that is not below q. */
+ek_point ek_point_of_digits(int32_t q, int32_t m, const uint8_t *digits, size_t digits_len);
+
 #ifdef __cplusplus
 }
 #endif

@@ -1,6 +1,7 @@
 //! The proved library's C boundary: its structs, its functions, and each expected answer in the library's form.
 
 use second::lattice::Point;
+use second::layers::Settings;
 use second::readings::{value_of_units, Taken};
 use second::refusals::{Answer, Refusal, MISSING, OUT_OF_RANGE};
 
@@ -42,7 +43,8 @@ impl From<Taken> for TakenAnswer {
 pub struct PointAnswer {
     number: u64,
     place: u64,
-    e: [i32; 8],
+    /// The point, or zeros with a refusal.
+    pub e: [i32; 8],
 }
 
 impl From<Answer<Point>> for PointAnswer {
@@ -65,6 +67,8 @@ extern "C" {
     fn ek_take_bits(bits: u32) -> TakenAnswer;
     fn ek_take_units(x: i32) -> TakenAnswer;
     fn ek_nearest(d: *const i32, d_len: usize, s: i32) -> PointAnswer;
+    fn ek_digits_of_point(q: i32, m: i32, e: *const i32, e_len: usize, out: *mut u8, out_len: usize) -> PointAnswer;
+    fn ek_point_of_digits(q: i32, m: i32, digits: *const u8, digits_len: usize) -> PointAnswer;
 }
 
 /// The library's taking of a pattern.
@@ -80,4 +84,14 @@ pub fn take_units(x: i32) -> TakenAnswer {
 /// The library's nearest point.
 pub fn nearest(d: &[i32], s: i32) -> PointAnswer {
     unsafe { ek_nearest(d.as_ptr(), d.len(), s) }
+}
+
+/// The library's point coder.
+pub fn digits_of_point(settings: Settings, e: &[i32], out: &mut [u8]) -> PointAnswer {
+    unsafe { ek_digits_of_point(settings.q, settings.m, e.as_ptr(), e.len(), out.as_mut_ptr(), out.len()) }
+}
+
+/// The library's point decoder.
+pub fn point_of_digits(settings: Settings, digits: &[u8]) -> PointAnswer {
+    unsafe { ek_point_of_digits(settings.q, settings.m, digits.as_ptr(), digits.len()) }
 }

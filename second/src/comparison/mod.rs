@@ -2,6 +2,7 @@
 //!
 //! An exported function joins with its declaration in `boundary`, a file of its groups here, and their name in `main`.
 
+pub mod layers;
 pub mod nearest;
 pub mod taking;
 

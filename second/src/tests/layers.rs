@@ -1,21 +1,11 @@
 //! Digits, leftover and decoding for every allowed q and M (01, Layers and steps).
 
-use super::{allowed_layouts, eight, lent, settings};
-use crate::lattice::{is_point, nearest, Point};
+use super::{eight, settings};
+use crate::drawn::{allowed_layouts, drawn_digits, drawn_point, lent};
+use crate::lattice::{is_point, Point};
 use crate::layers::{coefficients_of_point, digits_and_leftover, digits_of_point, layer_point};
 use crate::layers::{point_of_coefficients, point_of_digits, whole_point, Layout};
 use crate::random::Random;
-
-/// A list of digits below q, all of them drawn.
-fn drawn_digits(random: &mut Random, layout: Layout) -> Vec<u8> {
-    (0..layout.digits()).map(|_| random.between(0, layout.q - 1) as u8).collect()
-}
-
-/// A doubled point about so far out.
-fn drawn_point(random: &mut Random, far: i64) -> Point {
-    let any = std::array::from_fn(|_| random.between(-far, far));
-    nearest(&any, 1)
-}
 
 #[test]
 fn the_basis_and_its_way_back() {
@@ -47,7 +37,7 @@ fn a_point_is_the_decoded_one_plus_the_leftover() {
     let mut random = Random::new(33);
     for layout in allowed_layouts() {
         for _ in 0..100 {
-            let point = drawn_point(&mut random, (1 << 26) - 2);
+            let point = drawn_point(&mut random, 1 << 26);
             let mut digits = vec![0; layout.digits()];
             let leftover = digits_of_point(lent(layout), &point.map(|e| e as i32), &mut digits).expect("a point");
             let decoded = point_of_digits(lent(layout), &digits).expect("digits below q");

@@ -24,17 +24,6 @@ fn refused<V>(number: u64, place: u64) -> Answer<V> {
     Err(Refusal { number, place })
 }
 
-/// Every allowed pair of q and M.
-fn allowed_layouts() -> Vec<Layout> {
-    let pairs = (0..=20).flat_map(|q| (0..=6).map(move |m| settings(q, m)));
-    pairs.filter_map(|pair| pair.allowed().ok()).collect()
-}
-
-/// Allowed settings as they are lent.
-fn lent(layout: Layout) -> Settings {
-    settings(layout.q as i32, layout.layers as i32)
-}
-
 /// Eight numbers that begin so and end in zeros.
 fn eight<N: Copy + Default>(start: &[N]) -> [N; 8] {
     std::array::from_fn(|i| start.get(i).copied().unwrap_or_default())

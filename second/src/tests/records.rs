@@ -1,6 +1,7 @@
 //! Records, reports and scores for every allowed q and M (01, Bytes; Scores).
 
-use super::{allowed_layouts, bvecs, drawn_record, eight, fvecs, lent, refused, settings};
+use super::{bvecs, drawn_record, eight, fvecs, refused, settings};
+use crate::drawn::{allowed_layouts, lent};
 use crate::layers::{digits_and_leftover, Layout};
 use crate::random::Random;
 use crate::records::{decode, encode, report, Vector};

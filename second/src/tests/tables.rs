@@ -1,6 +1,7 @@
 //! Tables as the filler leaves them, and scores by them (01, Scores).
 
-use super::{bvecs, drawn_record, lent, settings};
+use super::{bvecs, drawn_record, settings};
+use crate::drawn::lent;
 use crate::layers::Layout;
 use crate::random::Random;
 use crate::records::Vector;
