@@ -25,7 +25,7 @@ pub struct PointAnswer {
 }
 
 // The answer of a refusal: no point.
-fn refused(r: Refusal) -> PointAnswer
+pub fn refused(r: Refusal) -> PointAnswer
     ensures { λ a. ⌜ a ≡ answered (Refused r) [] ⌝ }
 {
     PointAnswer {

@@ -1,5 +1,7 @@
 // The settings q and M.
 ghost use mathlib.Core.Path.{_≡_};
+ghost use lib.IntN.{natAbs};
+ghost use Rattle.refusals.specs.Laws.Allowed.{Allowed};
 ghost use Rattle.refusals.specs.Settings.{goodSettings, checkSettings};
 use crate::Refusal;
 use crate::Verdict;
@@ -44,4 +46,28 @@ pub fn check_settings(s: Settings) -> Verdict
     } else {
         Verdict::Refused(Refusal::Settings)
     }
+}
+
+// q of allowed settings, as a number to calculate with.
+pub fn base(s: Settings) -> i64
+    requires { ⌜ Allowed (s .q) (s .m) ⌝ }
+    ensures { λ r. ⌜ r ≡ s .q ⌝ }
+{
+    s.q as i64
+}
+
+// The same as a count: how many values a digit has.
+pub fn digit_values(s: Settings) -> usize
+    requires { ⌜ Allowed (s .q) (s .m) ⌝ }
+    ensures { λ r. ⌜ r ≡ natAbs (s .q) ⌝ }
+{
+    s.q as usize
+}
+
+// M of allowed settings: how many layers.
+pub fn layers(s: Settings) -> usize
+    requires { ⌜ Allowed (s .q) (s .m) ⌝ }
+    ensures { λ r. ⌜ r ≡ natAbs (s .m) ⌝ }
+{
+    s.m as usize
 }

@@ -1,10 +1,13 @@
 // The C library: each function a few lines over the floors below. include/enkhovrag.h describes them to their callers.
 ghost use mathlib.Core.Path.{_≡_};
 ghost use Rattle.readings.specs.Taking.{takeBits, takeUnits};
+ghost use lib.ListN.{length};
 ghost use Rattle.lattice.specs.Answers.{nearest};
-ghost use Rattle.unit.specs.Answers.{takenOut, pointOut};
+ghost use Rattle.layers.specs.Answers.{coded, digitRoom, decoded};
+ghost use Rattle.unit.specs.Answers.{settings, takenOut, pointOut};
 use lattice::PointAnswer;
 use readings::Taken;
+use refusals::settings::Settings;
 
 // A reading as taken: number 0 and its value, or 4 (missing) or 5 (out of range) and 0.0.
 #[repr(C)]
@@ -73,4 +76,21 @@ pub extern "C" fn ek_nearest(d: &[i32], s: i32) -> EkPoint
     ensures { λ r. ⌜ r ≡ pointOut (nearest (now (d .entry)) s) ⌝ }
 {
     point_out(lattice::nearest(d, s))
+}
+
+// The digits of a doubled point to the front of the lent bytes, and what is left over (01, Layers and steps).
+#[no_mangle]
+pub extern "C" fn ek_digits_of_point(q: i32, m: i32, e: &[i32], out: &mut [u8]) -> EkPoint
+    ensures answer { λ r. ⌜ r ≡ pointOut (coded (settings q m) (now (e .entry)) (length (now (out .entry)))) ⌝ }
+    ensures room { λ _. ⌜ now (out .exit) ≡ digitRoom (settings q m) (now (e .entry)) (now (out .entry)) ⌝ }
+{
+    point_out(layers::digits_of_point(Settings { q, m }, e, out))
+}
+
+// The doubled point of digits.
+#[no_mangle]
+pub extern "C" fn ek_point_of_digits(q: i32, m: i32, digits: &[u8]) -> EkPoint
+    ensures { λ r. ⌜ r ≡ pointOut (decoded (settings q m) (now (digits .entry))) ⌝ }
+{
+    point_out(layers::point_of_digits(Settings { q, m }, digits))
 }

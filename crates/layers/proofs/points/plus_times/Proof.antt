@@ -1,0 +1,129 @@
+-- `plus_times` fills by a + k b: after i turns the first i entries are right.
+use mathlib.Core.Path.{_≡_, refl, subst}
+use mathlib.Core.List.{List}
+use Prim.Native.Nat.{_+_, _-_, _^_, _≤_}
+use native.Mathlib.Omega.{arith}
+use lib.IntN.{ℤ, pos, natAbs, _+ℤ_, _*ℤ_}
+use lib.ListN.{length, getD, take, set, length-set}
+use mir.Syntax.{w64}
+use mir.Val.{SFits, toZ}
+use mir.Facts.{toZ-ofZ}
+use Rattle.integers.specs.Laws.Sizes.{fits-abs, fits-add, abs-mul-le}
+use Rattle.integers.specs.Laws.Sums.{entries, lengths}
+use Rattle.integers.specs.Vectors.{«at», addV, scaleV}
+use Rattle.layers.specs.Laws.Loops.{fill-next, fill-all}
+use Rattle.layers.proofs.points.plus_times.Statement.{statement}
+use Rattle.layers.proofs.points.plus_times.Tie as tie
+
+abbrev Inv-loop : tie.InvT-loop
+Inv-loop a b k r₀ i₀ r i = (i ≤ 8) × (length r ≡ 8) × (take i r ≡ take i (addV a (scaleV (toZ w64 k) b)))
+
+abbrev μ-loop : tie.MeasureT-loop
+μ-loop a b k r₀ i₀ r i = 8 - i
+
+-- the entry i of each, and what is made of them
+module _ (c : tie.After-r2 Inv-loop μ-loop) where
+  abbrev l : tie.At-loop Inv-loop μ-loop
+  l = c .before .before .before
+
+  abbrev s : tie.Start Inv-loop μ-loop
+  s = l .before
+
+  abbrev x : ℤ
+  x = getD (s .args .a .now) (l .loop .i) (pos 0)
+
+  abbrev y : ℤ
+  y = getD (s .args .b .now) (l .loop .i) (pos 0)
+
+  abbrev k : ℤ
+  k = s .args .k
+
+  fx : SFits w64 x
+  fx = fits-abs x (omega (arith, s .pre .0 .small (l .loop .i)))
+
+  fy : SFits w64 y
+  fy = fits-abs y (omega (arith, s .pre .1 .small (l .loop .i)))
+
+  size : natAbs (k *ℤ y) ≤ 2 ^ 60
+  size = omega (arith, abs-mul-le k y (s .pre .2) (s .pre .1 .small (l .loop .i)))
+
+  fky : SFits w64 (k *ℤ y)
+  fky = fits-abs (k *ℤ y) (omega (arith, size))
+
+  fsum : SFits w64 (x +ℤ k *ℤ y)
+  fsum = fits-add x (k *ℤ y) (omega (arith, size, s .pre .0 .small (l .loop .i)))
+
+  abbrev whole : List ℤ
+  whole = addV (s .args .a .now) (scaleV k (s .args .b .now))
+
+  entry : «at» whole (l .loop .i) ≡ x +ℤ k *ℤ y
+  entry = simp entries
+
+  whole-long : length whole ≡ 8
+  whole-long = simp lengths (omega (arith, s .pre .0 .long, s .pre .1 .long))
+
+loop-holds : tie.Need-loop-holds Inv-loop μ-loop
+loop-holds c = (omega arith, refl, refl)
+
+mul-r : tie.Need-mul-r Inv-loop μ-loop
+mul-r c = omega arith
+
+element-copy-out-r : tie.Need-element-copy-out-r Inv-loop μ-loop
+element-copy-out-r c = omega arith
+
+mul-r-2 : tie.Need-mul-r-2 Inv-loop μ-loop
+mul-r-2 c = omega arith
+
+element-copy-out-r-2 : tie.Need-element-copy-out-r-2 Inv-loop μ-loop
+element-copy-out-r-2 c = omega arith
+
+mul-r-3 : tie.Need-mul-r-3 Inv-loop μ-loop
+mul-r-3 c = simp (toZ-ofZ, s c .fits .k, fy c) (fky c)
+
+add-r : tie.Need-add-r Inv-loop μ-loop
+add-r c = simp (toZ-ofZ, s c .fits .k, fx c, fy c, fky c) (fsum c)
+
+mul-r-4 : tie.Need-mul-r-4 Inv-loop μ-loop
+mul-r-4 c = omega arith
+
+array-set-from-r : tie.Need-array-set-from-r Inv-loop μ-loop
+array-set-from-r c = omega arith
+
+add-i : tie.Need-add-i Inv-loop μ-loop
+add-i c = omega arith
+
+loop-less : tie.Need-loop-less Inv-loop μ-loop
+loop-less c = omega arith
+
+loop-again : tie.Need-loop-again Inv-loop μ-loop
+loop-again c = (
+  omega arith,
+  simp length-set (l c .loop .inv .1),
+  simp (toZ-ofZ, s c .fits .k, fx c, fy c, fky c, fsum c)
+      (subst (λ (z : ℤ). take (l c .loop .i + 1) (set (l c .loop .r) (l c .loop .i) z) ≡ take (l c .loop .i + 1) (whole c)) (entry c)
+      (fill-next (whole c) (l c .loop .r) (l c .loop .i) (pos 0) (omega (arith, whole-long c)) (omega arith) (simp (toZ-ofZ, s c .fits .k) at (l c .loop .inv .2)))),
+)
+
+returns : tie.Need-returns Inv-loop μ-loop
+returns c = let l = c .before in let s = l .before in
+    fill-all (addV (s .args .a .now) (scaleV (s .args .k) (s .args .b .now))) (l .loop .r) (l .loop .i) (simp lengths (omega (arith, s .pre .0 .long, s .pre .1 .long))) (omega arith) (simp (toZ-ofZ, s .fits .k) at (l .loop .inv .2))
+
+pub plus-times-spec : {M : Type 1} → statement M
+plus-times-spec =
+    tie.close
+    (tie.spec
+    Inv-loop
+    μ-loop
+    loop-holds
+    mul-r
+    element-copy-out-r
+    mul-r-2
+    element-copy-out-r-2
+    mul-r-3
+    add-r
+    mul-r-4
+    array-set-from-r
+    add-i
+    loop-less
+    loop-again
+    returns)

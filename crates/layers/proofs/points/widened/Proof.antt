@@ -1,0 +1,76 @@
+-- `widened` copies eight digits: after k turns the first k are right.
+use mathlib.Core.Path.{_≡_, refl}
+use mathlib.Core.List.{List, map}
+use Prim.Native.Nat.{ℕ, _≤_, _-_}
+use native.Mathlib.Omega.{arith}
+use lib.IntN.{pos}
+use lib.ListN.{length, getD, take, length-set}
+use mir.Syntax.{w64}
+use mir.Val.{SFits}
+use mir.Facts.{toZ-pos}
+use Rattle.integers.specs.Laws.Sizes.{fits-abs}
+use Rattle.integers.specs.Laws.Loops.{Filled, filled-more, filled-all}
+use Rattle.layers.proofs.points.widened.Statement.{statement}
+use Rattle.layers.proofs.points.widened.Tie as tie
+
+abbrev Inv-loop : tie.InvT-loop
+Inv-loop ds r₀ k₀ r k = Filled pos 8 ds k r
+
+abbrev μ-loop : tie.MeasureT-loop
+μ-loop ds r₀ k₀ r k = 8 - k
+
+module _ (c : tie.After-shared-slice-known Inv-loop μ-loop) where
+  abbrev l : tie.At-loop Inv-loop μ-loop
+  l = c .before .before
+
+  abbrev ds : List ℕ
+  ds = l .before .args .ds .now
+
+  abbrev d : ℕ
+  d = getD ds (l .loop .k) 0
+
+  fits : SFits w64 (pos d)
+  fits = fits-abs (pos d) (omega (arith, c .shared-slice-known .given (l .loop .k)))
+
+loop-holds : tie.Need-loop-holds Inv-loop μ-loop
+loop-holds c = record { within = omega arith; long = refl; same = refl }
+
+shared-slice-read-r : tie.Need-shared-slice-read-r Inv-loop μ-loop
+shared-slice-read-r c = omega arith
+
+cast-r : tie.Need-cast-r Inv-loop μ-loop
+cast-r c = fits c
+
+mul-r : tie.Need-mul-r Inv-loop μ-loop
+mul-r c = omega arith
+
+array-set-from-r : tie.Need-array-set-from-r Inv-loop μ-loop
+array-set-from-r c = omega arith
+
+add-k : tie.Need-add-k Inv-loop μ-loop
+add-k c = omega arith
+
+loop-less : tie.Need-loop-less Inv-loop μ-loop
+loop-less c = omega arith
+
+loop-again : tie.Need-loop-again Inv-loop μ-loop
+loop-again c = let b = l c in rw (toZ-pos w64 {n = d c} (omega (arith, c .shared-slice-known .given (b .loop .k)))) (filled-more pos 8 (ds c) (b .before .pre) 0 (pos (d c)) refl (c .before .loop-test .taken) (b .loop .inv))
+
+returns : tie.Need-returns Inv-loop μ-loop
+returns c = let b = c .before in filled-all pos 8 (b .before .args .ds .now) (b .before .pre) (omega arith) (b .loop .inv)
+
+pub widened-spec : {M : Type 1} → statement M
+widened-spec =
+    tie.close
+    (tie.spec
+    Inv-loop
+    μ-loop
+    loop-holds
+    shared-slice-read-r
+    cast-r
+    mul-r
+    array-set-from-r
+    add-k
+    loop-less
+    loop-again
+    returns)

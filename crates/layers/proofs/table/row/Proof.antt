@@ -1,0 +1,78 @@
+-- `row` copies its eight entries: after k turns the first k are right.
+use mathlib.Core.Path.{_≡_, refl}
+use Prim.Native.Nat.{_≤_, _-_}
+use native.Mathlib.Omega.{arith}
+use lib.IntN.{ℤ, pos}
+use lib.ListN.{length, take, getD, length-set}
+use mir.Syntax.{w8, w64}
+use mir.Val.{SFits}
+use mir.Facts.{toZ-ofZ, sfits-widen}
+use Rattle.layers.specs.Laws.Loops.{fill-next, fill-all}
+use Rattle.layers.proofs.table.row.Statement.{statement}
+use Rattle.layers.proofs.table.row.Tie as tie
+
+abbrev Inv-loop : tie.InvT-loop
+Inv-loop t r₀ k₀ r k = (k ≤ 8) × (length r ≡ 8) × (take k r ≡ take k t)
+
+abbrev μ-loop : tie.MeasureT-loop
+μ-loop t r₀ k₀ r k = 8 - k
+
+module _ (c : tie.After-r Inv-loop μ-loop) where
+  abbrev l : tie.At-loop Inv-loop μ-loop
+  l = c .before .before
+
+  abbrev x : ℤ
+  x = getD (l .before .args .t .now) (l .loop .k) (pos 0)
+
+  fx : SFits w8 x
+  fx = record { sfits = c .r .given }
+
+  fx64 : SFits w64 x
+  fx64 = sfits-widen tt fx
+
+loop-holds : tie.Need-loop-holds Inv-loop μ-loop
+loop-holds c = (omega arith, refl, refl)
+
+shared-slice-copy-out-r : tie.Need-shared-slice-copy-out-r Inv-loop μ-loop
+shared-slice-copy-out-r c = omega arith
+
+cast-r : tie.Need-cast-r Inv-loop μ-loop
+cast-r c = simp (toZ-ofZ, fx c) (fx64 c)
+
+mul-r : tie.Need-mul-r Inv-loop μ-loop
+mul-r c = omega arith
+
+array-set-from-r : tie.Need-array-set-from-r Inv-loop μ-loop
+array-set-from-r c = omega arith
+
+add-k : tie.Need-add-k Inv-loop μ-loop
+add-k c = omega arith
+
+loop-less : tie.Need-loop-less Inv-loop μ-loop
+loop-less c = omega arith
+
+loop-again : tie.Need-loop-again Inv-loop μ-loop
+loop-again c = (
+  omega arith,
+  simp length-set (l c .loop .inv .1),
+  simp (toZ-ofZ, fx c, fx64 c) (fill-next (l c .before .args .t .now) (l c .loop .r) (l c .loop .k) (pos 0) (omega (arith, l c .before .pre)) (omega arith) (l c .loop .inv .2)),
+)
+
+returns : tie.Need-returns Inv-loop μ-loop
+returns c = let l = c .before in fill-all (l .before .args .t .now) (l .loop .r) (l .loop .k) (omega (arith, l .before .pre)) (omega arith) (l .loop .inv .2)
+
+pub row-spec : {M : Type 1} → statement M
+row-spec =
+    tie.close
+    (tie.spec
+    Inv-loop
+    μ-loop
+    loop-holds
+    shared-slice-copy-out-r
+    cast-r
+    mul-r
+    array-set-from-r
+    add-k
+    loop-less
+    loop-again
+    returns)

@@ -1,0 +1,88 @@
+-- What loops have done after i turns: over a list, where b is what they are to write; over digits; over layers.
+use mathlib.Core.Path.{_≡_, refl, sym, _∙_, ap, ap₂, subst}
+use mathlib.Core.List.{List, [], _∷_, _++_, append-nil, append-assoc}
+use Prim.Native.Nat.{ℕ, zero, suc, _+_, _*_, _-_, _<_, _≤_}
+use native.Mathlib.Nat.{mul-le-mul, le-refl}
+use native.Mathlib.Numerals.{add-one}
+use native.Mathlib.Omega.{arith}
+use lib.IntN.{ℤ, pos}
+use lib.ListN.{length, getD, take, drop, set, length-take, length-drop, drop-of-length-le}
+use lib.Seq.{take-at, drop-at, drop-cons, drop-drop, take-all, take-suc, take-suc-set, set-at, append-snoc, length-take-le}
+use Rattle.integers.specs.Vectors.{addV, scaleV}
+use Rattle.layers.specs.Digits.{IsLayer, joined, IsCode, cut, entryOf}
+use Rattle.layers.specs.Laws.Rows.{below-drop, cut-layers}
+use Rattle.layers.specs.Laws.Weights.{decode-next}
+use Rattle.layers.specs.Layers.{layerDigits, digits, leftover, layerPoint, decode}
+use Rattle.layers.specs.Rule.{Lattice, Rule}
+
+module _ {A : Type 0} where
+  -- it fills r: the first i entries are those of b
+  pub fill-next : (b r : List A) (i : ℕ) (d : A) → i < length b → i < length r → take i r ≡ take i b → take (i + 1) (set r i (getD b i d)) ≡ take (i + 1) b
+  fill-next b r i d h k e = rw (add-one i) (take-suc-set r i (getD b i d) k ∙ ap (λ (l : List A). l ++ (getD b i d ∷ [])) e ∙ sym (take-suc b i d h))
+
+  pub fill-all : (b r : List A) (n : ℕ) → length b ≡ n → length r ≡ n → take n r ≡ take n b → r ≡ b
+  fill-all b r n h k e = sym (take-all n r (omega arith)) ∙ e ∙ take-all n b (omega arith)
+
+  -- it writes over the front of o: the first i entries are those of b, the rest those of o
+  pub write-next : (b o : List A) (i : ℕ) (d : A) → i < length b → length b ≤ length o → set (take i b ++ drop i o) i (getD b i d) ≡ take (i + 1) b ++ drop (i + 1) o
+  write-next b o i d h k =
+      ap (λ (l : List A). set (take i b ++ l) i (getD b i d)) (drop-cons o i d (omega arith))
+      ∙ set-at (take i b) (getD o i d) (drop (suc i) o) (getD b i d) i (length-take-le i b (omega arith))
+      ∙ sym (append-snoc (take i b) (getD b i d) (drop (suc i) o))
+      ∙ rw (add-one i) (ap (λ (l : List A). l ++ drop (suc i) o) (sym (take-suc b i d h)))
+
+  -- it writes b after what it has written, w, before the rest of o: the part from a to a + k is lent for it, and comes back
+  pub write-part : (w b o : List A) (a k : ℕ) → length w ≡ a → let x = w ++ drop a o in
+      take a x ++ ((b ++ drop k (take k (drop a x))) ++ drop k (drop a x)) ≡ (w ++ b) ++ drop (a + k) o
+  write-part w b o a k h =
+      let x : List A = w ++ drop a o in
+      let front : take a x ≡ w = take-at w (drop a o) a h in
+      let rest : drop a x ≡ drop a o = drop-at w (drop a o) a h in
+      let none : drop k (take k (drop a x)) ≡ [] = drop-of-length-le (take k (drop a x)) {i = k} (simp length-take (omega arith)) in
+      ap₂ (λ (f g : List A). f ++ ((b ++ g) ++ drop k (drop a x))) front none
+      ∙ ap₂ (λ (f g : List A). w ++ (f ++ drop k g)) (append-nil b) rest
+      ∙ ap (λ (f : List A). w ++ (b ++ f)) (drop-drop k a o)
+      ∙ sym (append-assoc w b (drop (a + k) o))
+
+-- an entry number is made from the last digit to the first
+module _ (q : ℕ) (ds : List ℕ) where
+  pub entryOf-next : (i : ℕ) → i < length ds → entryOf q (drop i ds) ≡ getD ds i 0 + q * entryOf q (drop (suc i) ds)
+  entryOf-next i h = ap (entryOf q) (drop-cons ds i 0 h)
+
+pub entryOf-drop : (q : ℕ) → 0 < q → (i : ℕ) (ds : List ℕ) → entryOf q (drop i ds) ≤ entryOf q ds
+entryOf-drop q q> zero ds = omega arith
+entryOf-drop q q> (suc i) [] = omega arith
+entryOf-drop q q> (suc i) (d ∷ ds) = omega (arith, entryOf-drop q q> i ds, mul-le-mul q> (le-refl (entryOf q ds)))
+
+-- a coder goes up: after k layers it holds what they leave over, and has written their digits
+module _ (L : Lattice) (R : Rule L) (q : ℕ) where
+  pub leftover-next : (k : ℕ) (g : List ℤ) → leftover L R q (suc k) g ≡ R .round (pos q) (leftover L R q k g)
+  leftover-next zero g = refl
+  leftover-next (suc k) g = leftover-next k (R .round (pos q) g)
+
+  pub digits-next : (k : ℕ) (g : List ℤ) → joined (digits L R q (suc k) g) ≡ joined (digits L R q k g) ++ layerDigits L q (leftover L R q k g)
+  digits-next zero g = append-nil (layerDigits L q g)
+  digits-next (suc k) g = let g′ : List ℤ = R .round (pos q) g in
+      ap (λ (f : List ℕ). layerDigits L q g ++ f) (digits-next k g′) ∙ sym (append-assoc (layerDigits L q g) (joined (digits L R q k g′)) (layerDigits L q (leftover L R q k g′)))
+
+-- a decoder goes down: layer i of a row of m, and the m - i layers from it on
+module _ (n q m : ℕ) (f : List ℕ) (h : IsCode n q m f) where
+  pub code-drop : (i : ℕ) → i ≤ m → IsCode n q (m - i) (drop (n * i) f)
+  code-drop i l = let e : i + (m - i) ≡ m = omega arith in record { long = simp length-drop (omega (arith, h .long, ap (λ (t : ℕ). n * t) e)); below = below-drop q (n * i) f (h .below) }
+
+  pub code-layer : (i : ℕ) → i < m → IsLayer n q (take n (drop (n * i) f))
+  code-layer i l =
+      let g : List ℕ = drop (n * i) f in
+      let k : IsCode n q (suc (m - suc i)) g = subst (λ (j : ℕ). IsCode n q j g) (omega arith) (code-drop i (omega arith)) in
+      cut-layers n q (suc (m - suc i)) g k .0
+
+module _ (L : Lattice) (R : Rule L) (q m : ℕ) (f : List ℕ) where
+  abbrev n : ℕ
+  n = L .size
+
+  pub decode-down : (i : ℕ) → i < m → decode L R q (cut n (m - i) (drop (n * i) f))
+      ≡ addV (layerPoint L R q (take n (drop (n * i) f))) (scaleV (pos q) (decode L R q (cut n (m - suc i) (drop (n * suc i) f))))
+  decode-down i l =
+      let g : List ℕ = drop (n * i) f in let k : ℕ = m - suc i in let e : m - i ≡ suc k = omega arith in let s : n * i + n ≡ n * suc i = omega arith in
+      ap (λ (j : ℕ). decode L R q (cut n j g)) e ∙ decode-next L R q (take n g) (cut n k (drop n g))
+      ∙ ap (λ (r : List ℕ). addV (layerPoint L R q (take n g)) (scaleV (pos q) (decode L R q (cut n k r)))) (drop-drop n (n * i) f ∙ ap (λ (j : ℕ). drop j f) s)
