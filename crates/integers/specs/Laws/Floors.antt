@@ -106,9 +106,6 @@ mod-rem x = byPos _ λ n. floorMod-rem x (suc n) (omega arith)
 pub mod-rem-neg : (x m : ℤ) → pos 1 ≤ℤ m → remZ x m <ℤ pos 0 → remZ x m +ℤ m ≡ pos (floorMod x (natAbs m))
 mod-rem-neg x = byPos _ λ n. floorMod-rem-neg x (suc n) (omega arith)
 
-pub abs-rem : (x m : ℤ) → pos 1 ≤ℤ m → natAbs (remZ x m) < natAbs m
-abs-rem x = byPos _ λ n. rem-lt x (suc n) (omega arith)
-
 -- ---- what fits an i64
 
 pub fits-floorDiv : (x : ℤ) (m : ℕ) → SFits w64 x → SFits w64 (floorDiv x m)

@@ -1,12 +1,12 @@
 -- omega over ℤ where the facts lie in the context: a number is its positive part less its negative part, both naturals.
-use mathlib.Core.Path.{_≡_, sym, _∙_, ap, ap₂, subst₂}
-use Prim.Native.Nat.{ℕ, suc, _+_, _*_, _-_, _^_, _<_, _≤_}
+use mathlib.Core.Path.{_≡_, sym, _∙_, subst₂}
+use Prim.Native.Nat.{ℕ, suc, _+_, _-_, _^_, _<_, _≤_}
 use native.Mathlib.Omega.{arith}
-use lib.IntN.{ℤ, pos, negsuc, negℤ, natAbs, _+ℤ_, _*ℤ_}
+use lib.IntN.{ℤ, pos, negsuc, natAbs}
 use lib.Signed.{_≤ℤ_, _<ℤ_}
 use mir.Syntax.{w64}
 use mir.Val.{SFits}
-use Rattle.integers.specs.Laws.Difference.{D, pos-D, negsuc-D, neg-D, add-D, mul-D, eq-D, le-D, lt-D}
+use Rattle.integers.specs.Laws.Difference.{D, pos-D, negsuc-D, eq-D, le-D, lt-D}
 
 abbrev pub posPart : ℤ → ℕ
 posPart (pos n) = n
@@ -37,16 +37,6 @@ pub →lt : {a b : ℤ} → posPart a + negPart b < posPart b + negPart a → a 
 
 pub →eq : {a b : ℤ} → posPart a + negPart b ≡ posPart b + negPart a → a ≡ b
 →eq {a} {b} h = is a ∙ eq-D (posPart a) (negPart a) (posPart b) (negPart b) .1 h ∙ sym (is b)
-
--- what a compound term is, to be listed for each
-pub sum-parts : (a b : ℤ) → posPart (a +ℤ b) + (negPart a + negPart b) ≡ (posPart a + posPart b) + negPart (a +ℤ b)
-sum-parts a b = eq-D (posPart (a +ℤ b)) (negPart (a +ℤ b)) (posPart a + posPart b) (negPart a + negPart b) .0 (sym (is (a +ℤ b)) ∙ ap₂ _+ℤ_ (is a) (is b) ∙ add-D (posPart a) (negPart a) (posPart b) (negPart b))
-
-pub minus-parts : (a : ℤ) → posPart (negℤ a) + posPart a ≡ negPart a + negPart (negℤ a)
-minus-parts a = eq-D (posPart (negℤ a)) (negPart (negℤ a)) (negPart a) (posPart a) .0 (sym (is (negℤ a)) ∙ ap negℤ (is a) ∙ neg-D (posPart a) (negPart a))
-
-pub prod-parts : (a b : ℤ) → posPart (a *ℤ b) + (posPart a * negPart b + negPart a * posPart b) ≡ (posPart a * posPart b + negPart a * negPart b) + negPart (a *ℤ b)
-prod-parts a b = eq-D (posPart (a *ℤ b)) (negPart (a *ℤ b)) (posPart a * posPart b + negPart a * negPart b) (posPart a * negPart b + negPart a * posPart b) .0 (sym (is (a *ℤ b)) ∙ ap₂ _*ℤ_ (is a) (is b) ∙ mul-D (posPart a) (negPart a) (posPart b) (negPart b))
 
 pub fits→ : {z : ℤ} → SFits w64 z → posPart z + negPart z ≤ 2 ^ 63
 fits→ {z = pos n} h = omega (arith, h .sfits)

@@ -29,9 +29,6 @@ neg-neg-*ℤ = byD₂ _ λ _ _ _ _. simp ints (omega arith)
 pub neg-+ℤ : (a b : ℤ) → negℤ (a +ℤ b) ≡ negℤ a +ℤ negℤ b
 neg-+ℤ = byD₂ _ λ _ _ _ _. simp ints (omega arith)
 
-pub sum-by-difference : (a b : ℤ) → (a +ℤ b) *ℤ (a -ℤ b) ≡ a *ℤ a -ℤ b *ℤ b
-sum-by-difference = byD₂ _ λ _ _ _ _. simp ints (omega arith)
-
 pub ≤ℤ-antisym : (a b : ℤ) → a ≤ℤ b → b ≤ℤ a → a ≡ b
 ≤ℤ-antisym = byD₂ _ λ _ _ _ _. simp ints (omega arith)
 

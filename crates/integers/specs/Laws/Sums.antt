@@ -1,12 +1,12 @@
 -- Laws of vectors: entries, lengths, sums, inner products and their sizes.
-use mathlib.Core.Path.{_≡_, refl, sym, _∙_, ap, ap₂, subst}
+use mathlib.Core.Path.{_≡_, refl, sym, _∙_, ap, ap₂}
 use mathlib.Core.List.{List, [], _∷_, map}
 use Prim.Native.Nat.{ℕ, zero, suc, _*_, _<_, _≤_, max}
 use native.Mathlib.Nat.{mul-le-mul}
 use native.Mathlib.Omega.{arith}
-use lib.IntN.{ℤ, pos, negℤ, natAbs, _+ℤ_, _-ℤ_, _*ℤ_, +ℤ-idl, +ℤ-idr, +ℤ-comm, *ℤ-comm, *ℤ-zero}
+use lib.IntN.{ℤ, pos, negℤ, natAbs, _+ℤ_, _*ℤ_, +ℤ-idl, +ℤ-idr, +ℤ-comm, *ℤ-comm, *ℤ-zero}
 use lib.ListN.{length, getD, take, set, length-map, length-set, length-replicate}
-use lib.Seq.{ext-getD, take-all}
+use lib.Seq.{ext-getD}
 use Rattle.integers.specs.Laws.Difference.{byD, ints, byD₂, byD₃, byD₄}
 use Rattle.integers.specs.Laws.Sizes.{abs-add, abs-mul}
 use Rattle.integers.specs.Vectors.{«at», zeros, addV, negV, scaleV, sumV, dot, Bounded, Sized, small}
@@ -60,22 +60,6 @@ pub ruleset lengths = (length-addV, length-scaleV, length-negV, length-zeros)
 -- vectors of one length with the same entries are one
 pub ext : {a b : List ℤ} → length a ≡ length b → ((i : ℕ) → «at» a i ≡ «at» b i) → a ≡ b
 ext {a} {b} h f = ext-getD (pos 0) a b h (λ i l. f i)
-
-module _ (n : ℕ) where
-  less : (x : ℤ) → x -ℤ x ≡ pos 0
-  less = byD _ λ _ _. simp ints (omega arith)
-
-  pub sub-self : (a : List ℤ) → length a ≡ n → addV a (negV a) ≡ zeros n
-  sub-self a h = ext (simp lengths (omega arith)) λ i. simp entries (less («at» a i))
-
-  pub add-zeros : (a : List ℤ) → length a ≡ n → addV (zeros n) a ≡ a
-  add-zeros a h = ext (simp lengths (omega arith)) λ i. simp entries (+ℤ-idl («at» a i))
-
-back-step : (x y : ℤ) → x +ℤ negℤ y +ℤ y ≡ x
-back-step = byD₂ _ λ _ _ _ _. simp ints (omega arith)
-
-pub sub-add : (a b : List ℤ) → length a ≡ length b → addV (addV a (negV b)) b ≡ a
-sub-add a b h = ext (simp lengths (omega arith)) λ i. simp entries (back-step («at» a i) («at» b i))
 
 -- ---- sums of entries
 
@@ -177,15 +161,6 @@ dot-bound A B a b h k (suc i) =
     rw (dot-take-suc a b i) (omega (arith, dot-bound A B a b h k i, abs-add (dot (take i a) (take i b)) (x *ℤ y), abs-mul x y, mul-le-mul (h i) (k i)))
 
 module _ (n A : ℕ) (a : List ℤ) (h : Sized n A a) where
-  whole : take n a ≡ a
-  whole = take-all n a (omega (arith, h .long))
-
-  pub sized-sum : natAbs (sumV a) ≤ n * A
-  sized-sum = subst (λ (w : List ℤ). natAbs (sumV w) ≤ n * A) whole (sum-bound A a (h .small) n)
-
-  pub sized-norm : natAbs (dot a a) ≤ n * (A * A)
-  sized-norm = subst (λ (w : List ℤ). natAbs (dot w w) ≤ n * (A * A)) whole (dot-bound A A a a (h .small) (h .small) n)
-
   pub sized-more : (B : ℕ) → A ≤ B → Sized n B a
   sized-more B l = record { long = h .long; small = λ i. omega (arith, h .small i) }
 

@@ -50,13 +50,6 @@ module _ (p : ℕ) (p< : p < 2) (r e : List ℤ) (h : length r ≡ length e) (a 
   pub twice-dot : par (sumV r) ≡ 0 → natAbs (dot (scaleV (pos 2) r) e) % 4 ≡ 0
   twice-dot k = rw (dot-scale (pos 2) r e, dot-all) (rw (ap (λ (s : ℤ). pos 2 *ℤ (pos 2 *ℤ dot r (floors 2 e) +ℤ pos p *ℤ s)) (half-of 0 (omega arith) (sumV r) k) ∙ twice-step p (dot r (floors 2 e)) (floorDiv (sumV r) 2)) (four-times (dot r (floors 2 e) +ℤ pos p *ℤ floorDiv (sumV r) 2)))
 
-even-step : (d s : ℤ) → pos 2 *ℤ (pos 2 *ℤ d +ℤ pos 0 *ℤ s) ≡ pos 4 *ℤ d
-even-step = byD₂ _ λ _ _ _ _. simp ints (omega arith)
-
--- and with any vector, where all its entries are even
-pub twice-even : (r e : List ℤ) → length r ≡ length e → All 0 e → natAbs (dot (scaleV (pos 2) r) e) % 4 ≡ 0
-twice-even r e h a = rw (dot-scale (pos 2) r e, dot-all 0 (omega arith) r e h a, even-step (dot r (floors 2 e)) (sumV r)) (four-times (dot r (floors 2 e)))
-
 -- rows that are twice something and a common vector u give entries of one parity
 row-step : (x u : ℤ) → par (pos 2 *ℤ x +ℤ u) ≡ par u
 row-step = byD₂ _ λ _ _ _ _. simp parities (omega arith)
