@@ -14,17 +14,17 @@ use Rattle.layers.specs.Digits.{Below, IsLayer}
 use Rattle.layers.specs.Layers.{remainders}
 
 module _ (q : ℕ) (q> : 0 < q) where
+  -- a list of integers is its digits and q times the rest
+  pub remainders-floors : (c : List ℤ) → c ≡ addV (map pos (remainders q c)) (scaleV (pos q) (floors q c))
+  remainders-floors [] = refl
+  remainders-floors (x ∷ c) = ap₂ _∷_ (floor-split x q q> ∙ +ℤ-comm (pos q *ℤ floorDiv x q) (pos (floorMod x q))) (remainders-floors c)
+
   pub remainders-layer : (c : List ℤ) → IsLayer (length c) q (remainders q c)
   remainders-layer c = record { long = length-map c _; below = go c }
     where
       go : (c : List ℤ) → Below q (remainders q c)
       go [] = tt
       go (x ∷ c) = (floorMod-lt x q q>, go c)
-
-  -- a list of integers is its digits and q times the rest
-  pub remainders-floors : (c : List ℤ) → c ≡ addV (map pos (remainders q c)) (scaleV (pos q) (floors q c))
-  remainders-floors [] = refl
-  remainders-floors (x ∷ c) = ap₂ _∷_ (floor-split x q q> ∙ +ℤ-comm (pos q *ℤ floorDiv x q) (pos (floorMod x q))) (remainders-floors c)
 
   pub remainders-move : (c k : List ℤ) → length c ≡ length k → remainders q (addV c (scaleV (pos q) k)) ≡ remainders q c
   remainders-move [] [] h = refl

@@ -45,14 +45,6 @@ nothing-vec : (n : ℕ) (w : ℤ) (d : List ℤ) → length d ≡ n → addV d (
 nothing-vec n w d h = ext (simp lengths (omega arith)) λ i. simp entries (nothing-step w («at» d i))
 
 module _ (L : Lattice) (R : Rule L) (q : ℕ) (q> : 0 < q) where
-  pub leftover-in : (m : ℕ) (g : List ℤ) → L .In g → L .In (leftover L R q m g)
-  leftover-in zero g h = h
-  leftover-in (suc m) g h = leftover-in m (R .round (pos q) g) (round-in L R q q> g h)
-
-  pub digits-are : (m : ℕ) (g : List ℤ) → L .In g → IsLayers (L .size) q m (digits L R q m g)
-  digits-are zero g h = tt
-  digits-are (suc m) g h = (layerDigits-are L R q q> g h, digits-are m (R .round (pos q) g) (round-in L R q q> g h))
-
   -- 1. a point is what its digits decode to, and q^m times what is left over
   pub decode-digits : (m : ℕ) (g : List ℤ) → L .In g → g ≡ addV (decode L R q (digits L R q m g)) (scaleV (pos (q ^ m)) (leftover L R q m g))
   decode-digits zero g h = rw (pow-zero q) (all-vec (L .size) g (L .long g h))
@@ -63,6 +55,14 @@ module _ (L : Lattice) (R : Rule L) (q : ℕ) (q> : 0 < q) where
       ∙ ap (λ (y : List ℤ). addV l (scaleV (pos q) y)) (decode-digits m g′ (round-in L R q q> g h))
       ∙ next-vec q (q ^ m) l d x
       ∙ ap₂ (λ (y : List ℤ) (w : ℕ). addV y (scaleV (pos w) x)) (sym (decode-next L R q (layerDigits L q g) (digits L R q m g′))) (sym (pow-succ' q m))
+
+  pub leftover-in : (m : ℕ) (g : List ℤ) → L .In g → L .In (leftover L R q m g)
+  leftover-in zero g h = h
+  leftover-in (suc m) g h = leftover-in m (R .round (pos q) g) (round-in L R q q> g h)
+
+  pub digits-are : (m : ℕ) (g : List ℤ) → L .In g → IsLayers (L .size) q m (digits L R q m g)
+  digits-are zero g h = tt
+  digits-are (suc m) g h = (layerDigits-are L R q q> g h, digits-are m (R .round (pos q) g) (round-in L R q q> g h))
 
   -- 3. every list of layers decodes to a point
   pub decode-in : (m : ℕ) (l : List (List ℕ)) → IsLayers (L .size) q m l → L .In (decode L R q l)
