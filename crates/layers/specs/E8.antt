@@ -10,7 +10,7 @@ use Rattle.lattice.specs.Laws.Basis.{pointOf-in, pointOf-coefficients, coeffici
 use Rattle.lattice.specs.Laws.Tables.{apply-add, apply-scale}
 use Rattle.lattice.specs.Laws.Theorems.{nearest8, nearest8-moves, nearest8-close}
 use Rattle.layers.specs.Digits.{joined, cut}
-use Rattle.layers.specs.Layers.{layerDigits, digits, leftover, layerPoint, decode}
+use Rattle.layers.specs.Layers.{digits, leftover, layerPoint, decode}
 use Rattle.layers.specs.Rule.{Lattice, Rule}
 
 abbrev pub e8 : Lattice

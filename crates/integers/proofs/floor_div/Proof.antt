@@ -1,6 +1,5 @@
 -- `floor_div` is the floor quotient: the machine's quotient where x is not negative, and one less than that of x + 1 where it is.
 use mathlib.Core.Path.{_≡_}
-use native.Mathlib.Omega.{arith}
 use lib.IntN.{ℤ, pos, natAbs, _+ℤ_, _-ℤ_}
 use lib.Signed.{quotZ, _<ℤ_}
 use mir.Syntax.{w64}

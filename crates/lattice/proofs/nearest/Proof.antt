@@ -1,16 +1,15 @@
 -- `nearest` answers the computed point where nothing is refused, and that point is the nearest by its definition.
-use mathlib.Core.Path.{_≡_, refl, sym, _∙_, ap}
+use mathlib.Core.Path.{_≡_, sym, _∙_, ap}
 use Prim.Native.Nat.{_^_}
 use native.Mathlib.Omega.{arith}
 use borrow.Author.Needs.{needs}
-use lib.IntN.{ℤ, pos}
 use mir.Syntax.{w32, w64}
 use mir.Val.{SFits}
 use mir.Facts.{toZ-ofZ, sfits-widen}
 use Rattle.integers.specs.Laws.Linear.{Z}
 use Rattle.integers.specs.Laws.Sums.{sized-more}
 use Rattle.refusals.specs.declared.Verdict.{Verdict}
-use Rattle.refusals.specs.declared.Verdict.the-variants.{Accepted, Refused}
+use Rattle.refusals.specs.declared.Verdict.the-variants.{Accepted}
 use Rattle.refusals.specs.Laws.Verdicts.{refused-never}
 use Rattle.lattice.specs.declared.PointAnswer.{PointAnswer}
 use Rattle.lattice.specs.Computed.{nearestPoint}

@@ -1,6 +1,5 @@
 -- `point_of_digits` answers the decoded point where nothing is refused.
 use mathlib.Core.Path.{_≡_, sym, _∙_, ap, ap₂, subst, subst₂}
-use mathlib.Core.List.{List}
 use Prim.Native.Nat.{ℕ, _^_, _≤_}
 use native.Mathlib.Omega.{arith}
 use borrow.Author.Needs.{needs}

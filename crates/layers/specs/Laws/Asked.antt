@@ -6,7 +6,7 @@ use Prim.Native.Nat.{ℕ, suc, _*_, _-_, _^_, _<_, _≤_}
 use native.Mathlib.Omega.{arith}
 use borrow.Author.Tests.{eqb-true, leb-true}
 use lib.Dec.{eqb, leb, ltb}
-use lib.IntN.{ℤ, pos, natAbs}
+use lib.IntN.{ℤ, natAbs}
 use lib.ListN.{length}
 use Rattle.refusals.specs.declared.settings.Settings.{Settings}
 use Rattle.refusals.specs.declared.Refusal.the-variants.{Settings as BadSettings, Size, Byte, Point}
@@ -19,13 +19,13 @@ use Rattle.integers.specs.Vectors.{Sized, small}
 use Rattle.refusals.specs.Laws.Allowed.{Allowed, settings-allowed}
 use Rattle.refusals.specs.Laws.Verdicts.{refused-never, unless-accepted, first-accepted}
 use Rattle.refusals.specs.Limits.{pointMost}
-use Rattle.refusals.specs.Settings.{goodSettings, checkSettings}
+use Rattle.refusals.specs.Settings.{checkSettings}
 use Rattle.refusals.specs.Verdicts.{unless, firstRefusal}
 use Rattle.lattice.specs.Doubled.{isPoint}
 use Rattle.layers.specs.Answers.{checkPoint, checkBelow, checkDigits}
 use Rattle.layers.specs.Digits.{Below, IsCode}
 use Rattle.layers.specs.E8.{e8, nearest, leftover8, decode8}
-use Rattle.layers.specs.Laws.Bases.{base-two, decode8-sized}
+use Rattle.layers.specs.Laws.Bases.{decode8-sized}
 use Rattle.layers.specs.Laws.Widths.{leftover-stays}
 use Rattle.layers.specs.Sizes.{longPower, Base}
 

@@ -1,8 +1,7 @@
 -- `point_out` copies the verdict's number and place, and the point.
-use mathlib.Core.Path.{_≡_, ap₂}
+use mathlib.Core.Path.{ap₂}
 use Prim.Native.Nat.{ℕ}
 use borrow.Author.Needs.{needs}
-use Rattle.unit.specs.declared.EkPoint.{EkPoint}
 use Rattle.unit.proofs.point_out.Statement.{statement}
 use Rattle.unit.proofs.point_out.Tie as tie
 

@@ -1,15 +1,12 @@
 -- `apply` is the table by the vector, row by row: a table of eight rows is the list of its eight entries.
 use mathlib.Core.Path.{_≡_, refl, sym, _∙_, ap, ap₂}
 use mathlib.Core.List.{List, [], _∷_, map}
-use Prim.Native.Nat.{ℕ, _^_}
-use native.Mathlib.Omega.{arith}
 use borrow.Author.Needs.{needs}
 use lib.IntN.{ℤ}
-use lib.ListN.{getD}
 use mir.Syntax.{w64}
 use mir.Val.{SFits}
 use mir.Facts.{toZ-ofZ}
-use Rattle.integers.specs.Vectors.{dot, Sized}
+use Rattle.integers.specs.Vectors.{dot}
 use Rattle.integers.specs.Laws.Loops.{by-entries}
 use Rattle.lattice.specs.Basis.{apply}
 use Rattle.lattice.specs.Laws.Tables.{apply-sized}

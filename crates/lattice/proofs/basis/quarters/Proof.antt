@@ -1,7 +1,7 @@
 -- `quarters` shifts each entry right by two places, which divides by 4 and rounds down: after i turns the first i are right.
 use mathlib.Core.Path.{refl}
 use mathlib.Core.List.{List}
-use Prim.Native.Nat.{ℕ, _-_}
+use Prim.Native.Nat.{_-_}
 use native.Mathlib.Omega.{arith}
 use lib.IntN.{ℤ, pos}
 use lib.Signed.{shrZ, mag-shr}

@@ -1,11 +1,11 @@
 -- `row` sums the products of a row's entries with the vector's: after j turns the inner product of the first j of each.
-use mathlib.Core.Path.{_≡_, refl, sym, _∙_, ap₂}
+use mathlib.Core.Path.{_≡_, refl, _∙_, ap₂}
 use mathlib.Core.List.{List, []}
-use Prim.Native.Nat.{ℕ, suc, _*_, _-_, _^_, _<_, _≤_}
+use Prim.Native.Nat.{ℕ, suc, _-_, _^_, _≤_}
 use native.Mathlib.Numerals.{add-one}
 use native.Mathlib.Omega.{arith}
-use lib.IntN.{ℤ, pos, natAbs, _+ℤ_, _*ℤ_}
-use lib.ListN.{length, getD, take}
+use lib.IntN.{ℤ, _+ℤ_, _*ℤ_}
+use lib.ListN.{getD, take}
 use lib.Seq.{take-all}
 use mir.Syntax.{w64}
 use mir.Val.{SFits, toZ}

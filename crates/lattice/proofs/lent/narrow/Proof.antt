@@ -1,7 +1,7 @@
 -- `narrow` copies entry by entry; each fits 32 bits by its size.
 use mathlib.Core.Path.{refl, _∙_}
 use mathlib.Core.List.{List, map-id}
-use Prim.Native.Nat.{ℕ, _-_}
+use Prim.Native.Nat.{_-_}
 use native.Mathlib.Omega.{arith}
 use lib.IntN.{ℤ, pos}
 use mir.Syntax.{w32, w64}

@@ -1,7 +1,7 @@
 -- `widen` copies entry by entry; a number of 32 bits fits 64.
 use mathlib.Core.Path.{refl, _∙_}
 use mathlib.Core.List.{List, map-id}
-use Prim.Native.Nat.{ℕ, _-_}
+use Prim.Native.Nat.{_-_}
 use native.Mathlib.Omega.{arith}
 use lib.IntN.{ℤ, pos}
 use mir.Syntax.{w32, w64}

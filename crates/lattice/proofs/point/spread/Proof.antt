@@ -6,12 +6,11 @@ use Prim.Native.Nat.{ℕ, _-_, _^_, _≤_}
 use native.Mathlib.Omega.{arith}
 use borrow.Author.Needs.{needs}
 use lib.IntN.{ℤ, pos, natAbs, _+ℤ_, _*ℤ_}
-use lib.ListN.{length}
 use mir.Syntax.{w64}
-use mir.Val.{SFits, toZ}
+use mir.Val.{SFits}
 use mir.Facts.{toZ-ofZ}
 use Rattle.integers.specs.Laws.Loops.{Filled, filled-more, filled-all}
-use Rattle.integers.specs.Laws.Sizes.{abs-mul, fits-abs, fits-add, fits-mul}
+use Rattle.integers.specs.Laws.Sizes.{abs-mul, fits-add, fits-mul}
 use Rattle.integers.specs.Vectors.{«at», Sized}
 use Rattle.lattice.specs.Computed.{spread}
 use Rattle.lattice.proofs.point.spread.Statement.{statement}

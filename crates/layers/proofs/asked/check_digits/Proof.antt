@@ -1,17 +1,14 @@
 -- `check_digits` is the list of checks, test by test.
-use mathlib.Core.Path.{_≡_, sym, _∙_, ap, ap₂}
-use mathlib.Core.List.{List, [], _∷_}
+use mathlib.Core.Path.{_≡_, sym, _∙_, ap}
 use Prim.Native.Nat.{ℕ, _*_}
 use native.Mathlib.Omega.{arith}
 use borrow.Author.Needs.{needs}
 use borrow.Author.Tests.{eq-eqb, ne-eqb}
 use lib.IntN.{natAbs}
 use lib.ListN.{length}
-use Rattle.refusals.specs.declared.Verdict.{Verdict}
-use Rattle.refusals.specs.declared.Verdict.the-variants.{Accepted, Refused}
+use Rattle.refusals.specs.declared.Verdict.the-variants.{Accepted}
 use Rattle.refusals.specs.Laws.Allowed.{Allowed}
 use Rattle.refusals.specs.Settings.{checkSettings}
-use Rattle.refusals.specs.Verdicts.{firstRefusal}
 use Rattle.layers.specs.Answers.{checkBelow, checkDigits}
 use Rattle.layers.specs.Laws.Asked.{checked-allowed, first-last}
 use Rattle.layers.proofs.asked.check_digits.Statement.{statement}

@@ -1,12 +1,11 @@
 -- A layer's digits are the remainders of the coefficients.
-use mathlib.Core.Path.{_≡_, _∙_, ap}
+use mathlib.Core.Path.{_∙_, ap}
 use mathlib.Core.List.{List, _++_}
-use Prim.Native.Nat.{ℕ, _^_}
+use Prim.Native.Nat.{_^_}
 use native.Mathlib.Omega.{arith}
 use borrow.Author.Needs.{needs}
 use lib.IntN.{ℤ, natAbs}
 use lib.ListN.{drop}
-use mir.Syntax.{w64}
 use mir.Facts.{toZ-ofZ}
 use Rattle.integers.specs.Laws.Sums.{sized-more}
 use Rattle.layers.specs.Layers.{remainders, layerDigits}

@@ -1,16 +1,15 @@
 -- The floor's remainder is below q, so that it fits a byte.
-use mathlib.Core.Path.{_≡_, ap, _∙_}
+use mathlib.Core.Path.{_≡_, ap}
 use Prim.Native.Nat.{_<_}
 use native.Mathlib.Omega.{arith}
 use lib.IntN.{pos, natAbs}
 use lib.Signed.{_≤ℤ_}
-use mir.Syntax.{w64, w8}
-use mir.Val.{SFits, Fits}
+use mir.Syntax.{w64}
+use mir.Val.{SFits}
 use mir.Facts.{toZ-ofZ}
 use Rattle.integers.specs.Floor.{floorMod}
 use Rattle.integers.specs.Laws.Floors.{floorMod-lt, abs-pos}
 use Rattle.integers.specs.Laws.Signed.{≤ℤ-trans}
-use Rattle.layers.specs.Sizes.{Base}
 use Rattle.layers.proofs.digits.remainder.Statement.{statement}
 use Rattle.layers.proofs.digits.remainder.Tie as tie
 

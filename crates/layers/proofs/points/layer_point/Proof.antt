@@ -1,6 +1,5 @@
 -- Where q is 2 the table has the layer point, and else the rule gives it.
 use mathlib.Core.Path.{_≡_, sym, _∙_, ap, subst}
-use mathlib.Core.List.{List}
 use Prim.Native.Nat.{ℕ}
 use lib.IntN.{natAbs}
 use mir.Syntax.{w64}
