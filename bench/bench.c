@@ -60,6 +60,16 @@ static void compare(const char *job, struct way *ways, int n) {
     for (int k = 0; k < n; k++) printf("  %-20s %7.2f ns   library / this: %.2f\n", ways[k].name, ways[k].best, ways[0].best / ways[k].best);
 }
 
+/* A run of a function that answers a point, over every block i. */
+#define POINT_RUN(f, ...) \
+    static double run_##f(void) { \
+        double start = now(); \
+        int64_t sum = 0; \
+        for (int i = 0; i < BLOCKS; i++) sum += f(__VA_ARGS__).e[3]; \
+        sink += sum; \
+        return (now() - start) / BLOCKS; \
+    }
+
 /* ---- taking a reading */
 
 #define TAKE_RUN(f) \
@@ -102,14 +112,7 @@ static void taking(void) {
 
 static int32_t step;
 
-#define NEAREST_RUN(f) \
-    static double run_##f(void) { \
-        double start = now(); \
-        int64_t sum = 0; \
-        for (int i = 0; i < BLOCKS; i++) sum += f(input[i], 8, step).e[3]; \
-        sink += sum; \
-        return (now() - start) / BLOCKS; \
-    }
+#define NEAREST_RUN(f) POINT_RUN(f, input[i], 8, step)
 
 NEAREST_RUN(ek_nearest)
 NEAREST_RUN(gcc_same)
@@ -144,23 +147,8 @@ static void nearest_point(int32_t s, int32_t most) {
 
 static int32_t q, m;
 
-#define DECODE_RUN(f) \
-    static double run_##f(void) { \
-        double start = now(); \
-        int64_t sum = 0; \
-        for (int i = 0; i < BLOCKS; i++) sum += f(q, m, digits[i], 8 * m).e[3]; \
-        sink += sum; \
-        return (now() - start) / BLOCKS; \
-    }
-
-#define CODE_RUN(f) \
-    static double run_##f(void) { \
-        double start = now(); \
-        int64_t sum = 0; \
-        for (int i = 0; i < BLOCKS; i++) sum += f(q, m, input[i], 8, digits[i], 32).e[3]; \
-        sink += sum; \
-        return (now() - start) / BLOCKS; \
-    }
+#define DECODE_RUN(f) POINT_RUN(f, q, m, digits[i], 8 * m)
+#define CODE_RUN(f) POINT_RUN(f, q, m, input[i], 8, digits[i], 32)
 
 DECODE_RUN(ek_point_of_digits)
 DECODE_RUN(gcc_point_of_digits)
@@ -171,8 +159,21 @@ DECODE_RUN(clang_point_of_digits)
 CODE_RUN(clang_digits_of_point)
 #endif
 
-static void whole_decoding(int32_t base, int32_t layers) {
+#ifdef CLANG
+enum { LAYER_WAY_COUNT = 3 };
+#define LAYER_WAYS(f) {{"library", run_ek_##f, 0}, {"gcc -O3", run_gcc_##f, 0}, {"clang -O3", run_clang_##f, 0}}
+#else
+enum { LAYER_WAY_COUNT = 2 };
+#define LAYER_WAYS(f) {{"library", run_ek_##f, 0}, {"gcc -O3", run_gcc_##f, 0}}
+#endif
+
+static void compare_layers(const char *name, struct way *ways) {
     char job[64];
+    snprintf(job, sizeof job, "%s, q = %d, M = %d", name, q, m);
+    compare(job, ways, LAYER_WAY_COUNT);
+}
+
+static void whole_decoding(int32_t base, int32_t layers) {
     q = base;
     m = layers;
     for (int i = 0; i < BLOCKS; i++) {
@@ -180,19 +181,11 @@ static void whole_decoding(int32_t base, int32_t layers) {
         ek_point a = ek_point_of_digits(q, m, digits[i], 8 * m), b = gcc_point_of_digits(q, m, digits[i], 8 * m);
         if (memcmp(&a, &b, sizeof a) != 0) printf("whole decoding DIFFERS at block %d\n", i);
     }
-    struct way ways[] = {
-        {"library", run_ek_point_of_digits, 0},
-        {"gcc -O3", run_gcc_point_of_digits, 0},
-#ifdef CLANG
-        {"clang -O3", run_clang_point_of_digits, 0},
-#endif
-    };
-    snprintf(job, sizeof job, "whole decoding, q = %d, M = %d", q, m);
-    compare(job, ways, sizeof ways / sizeof *ways);
+    struct way ways[] = LAYER_WAYS(point_of_digits);
+    compare_layers("whole decoding", ways);
 }
 
 static void coding(int32_t base, int32_t layers, int32_t most) {
-    char job[64];
     q = base;
     m = layers;
     for (int i = 0; i < BLOCKS; i++) {
@@ -204,15 +197,8 @@ static void coding(int32_t base, int32_t layers, int32_t most) {
         ek_point a = ek_digits_of_point(q, m, input[i], 8, digits[i], 32), b = gcc_digits_of_point(q, m, input[i], 8, other, 32);
         if (memcmp(&a, &b, sizeof a) != 0 || memcmp(digits[i], other, sizeof other) != 0) printf("coding a point DIFFERS at block %d\n", i);
     }
-    struct way ways[] = {
-        {"library", run_ek_digits_of_point, 0},
-        {"gcc -O3", run_gcc_digits_of_point, 0},
-#ifdef CLANG
-        {"clang -O3", run_clang_digits_of_point, 0},
-#endif
-    };
-    snprintf(job, sizeof job, "coding a point, q = %d, M = %d", q, m);
-    compare(job, ways, sizeof ways / sizeof *ways);
+    struct way ways[] = LAYER_WAYS(digits_of_point);
+    compare_layers("coding a point", ways);
 }
 
 int main(void) {
