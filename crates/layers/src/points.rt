@@ -9,6 +9,7 @@ ghost use Rattle.layers.specs.Digits.{IsLayer, IsCode};
 ghost use Rattle.layers.specs.E8.{layerPoint8, decode8};
 ghost use Rattle.layers.specs.Sizes.{Base, longPower};
 ghost use Rattle.layers.specs.Table.{TableFor};
+use crate::lookup;
 use crate::table;
 use lattice::basis;
 use lattice::point;
@@ -58,7 +59,7 @@ pub fn layer_point(t: &[i8], ds: &[u8], q: i64) -> [i64; 8]
     ensures { λ r. ⌜ r ≡ layerPoint8 (natAbs q) (now (ds .entry)) ⌝ }
 {
     if q == 2 {
-        table::table_point(t, ds)
+        lookup::table_point(t, ds)
     } else {
         ruled_point(ds, q)
     }

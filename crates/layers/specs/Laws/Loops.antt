@@ -7,7 +7,7 @@ use native.Mathlib.Numerals.{add-one}
 use native.Mathlib.Omega.{arith}
 use lib.IntN.{ℤ, pos}
 use lib.ListN.{length, getD, take, drop, set, length-take, length-drop, drop-of-length-le}
-use lib.Seq.{take-at, drop-at, drop-cons, drop-drop, take-all, take-suc, take-suc-set, set-at, append-snoc, length-take-le}
+use lib.Seq.{take-at, drop-at, drop-cons, drop-drop, take-suc, set-at, append-snoc, length-take-le}
 use Rattle.integers.specs.Vectors.{addV, scaleV}
 use Rattle.layers.specs.Digits.{IsLayer, joined, IsCode, cut, entryOf}
 use Rattle.layers.specs.Laws.Rows.{below-drop, cut-layers}
@@ -16,13 +16,6 @@ use Rattle.layers.specs.Layers.{layerDigits, digits, leftover, layerPoin
 use Rattle.layers.specs.Rule.{Lattice, Rule}
 
 module _ {A : Type 0} where
-  -- it fills r: the first i entries are those of b
-  pub fill-next : (b r : List A) (i : ℕ) (d : A) → i < length b → i < length r → take i r ≡ take i b → take (i + 1) (set r i (getD b i d)) ≡ take (i + 1) b
-  fill-next b r i d h k e = rw (add-one i) (take-suc-set r i (getD b i d) k ∙ ap (λ (l : List A). l ++ (getD b i d ∷ [])) e ∙ sym (take-suc b i d h))
-
-  pub fill-all : (b r : List A) (n : ℕ) → length b ≡ n → length r ≡ n → take n r ≡ take n b → r ≡ b
-  fill-all b r n h k e = sym (take-all n r (omega arith)) ∙ e ∙ take-all n b (omega arith)
-
   -- it writes over the front of o: the first i entries are those of b, the rest those of o
   pub write-next : (b o : List A) (i : ℕ) (d : A) → i < length b → length b ≤ length o → set (take i b ++ drop i o) i (getD b i d) ≡ take (i + 1) b ++ drop (i + 1) o
   write-next b o i d h k =

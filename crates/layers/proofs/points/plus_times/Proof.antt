@@ -1,22 +1,22 @@
 -- `plus_times` fills by a + k b: after i turns the first i entries are right.
-use mathlib.Core.Path.{_≡_, refl, subst}
-use mathlib.Core.List.{List}
+use mathlib.Core.Path.{_≡_, refl, sym, _∙_}
+use mathlib.Core.List.{List, map-id}
 use Prim.Native.Nat.{_+_, _-_, _^_, _≤_}
 use native.Mathlib.Omega.{arith}
 use lib.IntN.{ℤ, pos, natAbs, _+ℤ_, _*ℤ_}
-use lib.ListN.{length, getD, take, set, length-set}
+use lib.ListN.{length, getD}
 use mir.Syntax.{w64}
 use mir.Val.{SFits, toZ}
 use mir.Facts.{toZ-ofZ}
+use Rattle.integers.specs.Laws.Loops.{Filled, filled-more, filled-all}
 use Rattle.integers.specs.Laws.Sizes.{fits-abs, fits-add, abs-mul-le}
 use Rattle.integers.specs.Laws.Sums.{entries, lengths}
 use Rattle.integers.specs.Vectors.{«at», addV, scaleV}
-use Rattle.layers.specs.Laws.Loops.{fill-next, fill-all}
 use Rattle.layers.proofs.points.plus_times.Statement.{statement}
 use Rattle.layers.proofs.points.plus_times.Tie as tie
 
 abbrev Inv-loop : tie.InvT-loop
-Inv-loop a b k r₀ i₀ r i = (i ≤ 8) × (length r ≡ 8) × (take i r ≡ take i (addV a (scaleV (toZ w64 k) b)))
+Inv-loop a b k r₀ i₀ r i = Filled (λ (z : ℤ). z) 8 (addV a (scaleV (toZ w64 k) b)) i r
 
 abbrev μ-loop : tie.MeasureT-loop
 μ-loop a b k r₀ i₀ r i = 8 - i
@@ -63,7 +63,7 @@ module _ (c : tie.After-r2 Inv-loop μ-loop) where
   whole-long = simp lengths (omega (arith, s .pre .0 .long, s .pre .1 .long))
 
 loop-holds : tie.Need-loop-holds Inv-loop μ-loop
-loop-holds c = (omega arith, refl, refl)
+loop-holds c = record { within = omega arith; long = refl; same = refl }
 
 mul-r : tie.Need-mul-r Inv-loop μ-loop
 mul-r c = omega arith
@@ -96,17 +96,13 @@ loop-less : tie.Need-loop-less Inv-loop μ-loop
 loop-less c = omega arith
 
 loop-again : tie.Need-loop-again Inv-loop μ-loop
-loop-again c = (
-  omega arith,
-  simp length-set (l c .loop .inv .1),
-  simp (toZ-ofZ, s c .fits .k, fx c, fy c, fky c, fsum c)
-      (subst (λ (z : ℤ). take (l c .loop .i + 1) (set (l c .loop .r) (l c .loop .i) z) ≡ take (l c .loop .i + 1) (whole c)) (entry c)
-      (fill-next (whole c) (l c .loop .r) (l c .loop .i) (pos 0) (omega (arith, whole-long c)) (omega arith) (simp (toZ-ofZ, s c .fits .k) at (l c .loop .inv .2)))),
-)
+loop-again c = let b = l c in let fk = s c .fits .k in
+    simp (toZ-ofZ, fk, fx c, fy c, fky c, fsum c)
+    (filled-more (λ (z : ℤ). z) 8 (whole c) (whole-long c) (pos 0) (x c +ℤ k c *ℤ y c) (sym (entry c)) (c .before .before .loop-test .taken) (simp (toZ-ofZ, fk) at (b .loop .inv)))
 
 returns : tie.Need-returns Inv-loop μ-loop
-returns c = let l = c .before in let s = l .before in
-    fill-all (addV (s .args .a .now) (scaleV (s .args .k) (s .args .b .now))) (l .loop .r) (l .loop .i) (simp lengths (omega (arith, s .pre .0 .long, s .pre .1 .long))) (omega arith) (simp (toZ-ofZ, s .fits .k) at (l .loop .inv .2))
+returns c = let l = c .before in let s = l .before in let whole = addV (s .args .a .now) (scaleV (s .args .k) (s .args .b .now)) in
+    filled-all (λ (z : ℤ). z) 8 whole (simp lengths (omega (arith, s .pre .0 .long, s .pre .1 .long))) (omega arith) (simp (toZ-ofZ, s .fits .k) at (l .loop .inv)) ∙ map-id whole
 
 pub plus-times-spec : {M : Type 1} → statement M
 plus-times-spec =

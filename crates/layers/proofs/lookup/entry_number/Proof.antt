@@ -9,8 +9,8 @@ use Rattle.layers.specs.Digits.{entryOf}
 use Rattle.layers.specs.Laws.Entries.{entryOf-less}
 use Rattle.layers.specs.Laws.Rows.{below-at}
 use Rattle.layers.specs.Laws.Loops.{entryOf-next, entryOf-drop}
-use Rattle.layers.proofs.table.entry_number.Statement.{statement}
-use Rattle.layers.proofs.table.entry_number.Tie as tie
+use Rattle.layers.proofs.lookup.entry_number.Statement.{statement}
+use Rattle.layers.proofs.lookup.entry_number.Tie as tie
 
 abbrev Inv-loop : tie.InvT-loop
 Inv-loop ds q n₀ i₀ n i = (i ≤ length ds) × (n ≡ entryOf q (drop i ds))

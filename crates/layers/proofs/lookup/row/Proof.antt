@@ -1,18 +1,19 @@
 -- `row` copies its eight entries: after k turns the first k are right.
-use mathlib.Core.Path.{_≡_, refl}
-use Prim.Native.Nat.{_≤_, _-_}
+use mathlib.Core.Path.{refl, _∙_}
+use mathlib.Core.List.{map-id}
+use Prim.Native.Nat.{_-_}
 use native.Mathlib.Omega.{arith}
 use lib.IntN.{ℤ, pos}
-use lib.ListN.{length, take, getD, length-set}
+use lib.ListN.{getD}
 use mir.Syntax.{w8, w64}
 use mir.Val.{SFits}
 use mir.Facts.{toZ-ofZ, sfits-widen}
-use Rattle.layers.specs.Laws.Loops.{fill-next, fill-all}
-use Rattle.layers.proofs.table.row.Statement.{statement}
-use Rattle.layers.proofs.table.row.Tie as tie
+use Rattle.integers.specs.Laws.Loops.{Filled, filled-more, filled-all}
+use Rattle.layers.proofs.lookup.row.Statement.{statement}
+use Rattle.layers.proofs.lookup.row.Tie as tie
 
 abbrev Inv-loop : tie.InvT-loop
-Inv-loop t r₀ k₀ r k = (k ≤ 8) × (length r ≡ 8) × (take k r ≡ take k t)
+Inv-loop t r₀ k₀ r k = Filled (λ (z : ℤ). z) 8 t k r
 
 abbrev μ-loop : tie.MeasureT-loop
 μ-loop t r₀ k₀ r k = 8 - k
@@ -31,7 +32,7 @@ module _ (c : tie.After-r Inv-loop μ-loop) where
   fx64 = sfits-widen tt fx
 
 loop-holds : tie.Need-loop-holds Inv-loop μ-loop
-loop-holds c = (omega arith, refl, refl)
+loop-holds c = record { within = omega arith; long = refl; same = refl }
 
 shared-slice-copy-out-r : tie.Need-shared-slice-copy-out-r Inv-loop μ-loop
 shared-slice-copy-out-r c = omega arith
@@ -52,14 +53,10 @@ loop-less : tie.Need-loop-less Inv-loop μ-loop
 loop-less c = omega arith
 
 loop-again : tie.Need-loop-again Inv-loop μ-loop
-loop-again c = (
-  omega arith,
-  simp length-set (l c .loop .inv .1),
-  simp (toZ-ofZ, fx c, fx64 c) (fill-next (l c .before .args .t .now) (l c .loop .r) (l c .loop .k) (pos 0) (omega (arith, l c .before .pre)) (omega arith) (l c .loop .inv .2)),
-)
+loop-again c = let b = l c in simp (toZ-ofZ, fx c, fx64 c) (filled-more (λ (z : ℤ). z) 8 (b .before .args .t .now) (b .before .pre) (pos 0) (x c) refl (c .before .loop-test .taken) (b .loop .inv))
 
 returns : tie.Need-returns Inv-loop μ-loop
-returns c = let l = c .before in fill-all (l .before .args .t .now) (l .loop .r) (l .loop .k) (omega (arith, l .before .pre)) (omega arith) (l .loop .inv .2)
+returns c = let b = c .before .before in filled-all (λ (z : ℤ). z) 8 (b .args .t .now) (b .pre) (omega arith) (c .before .loop .inv) ∙ map-id (b .args .t .now)
 
 pub row-spec : {M : Type 1} → statement M
 row-spec =

@@ -9,8 +9,8 @@ use lib.ListN.{length, take, drop, length-take, length-drop}
 use Rattle.layers.specs.Digits.{entryOf}
 use Rattle.layers.specs.Laws.Entries.{entryOf-less}
 use Rattle.layers.specs.Laws.Table.{table-long, table-row}
-use Rattle.layers.proofs.table.table_point.Statement.{statement}
-use Rattle.layers.proofs.table.table_point.Tie as tie
+use Rattle.layers.proofs.lookup.table_point.Statement.{statement}
+use Rattle.layers.proofs.lookup.table_point.Tie as tie
 
 -- the entry number is below 256, and the row lies within the table
 module _ (c : tie.After-entry-number) where
