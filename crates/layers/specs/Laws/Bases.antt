@@ -1,11 +1,11 @@
 -- A q that the code takes: it is positive, a divisor that the nearest point takes, and its digits are small numbers.
 use mathlib.Core.Path.{_≡_, refl, sym, _∙_, subst}
-use mathlib.Core.Bool.{Bool, true, false, _&&_}
+use mathlib.Core.Bool.{true}
 use mathlib.Core.List.{List, [], _∷_, map}
 use Prim.Native.Nat.{ℕ, zero, suc, _*_, _-_, _^_, _<_, _≤_}
 use native.Mathlib.Omega.{arith}
 use native.Mathlib.Nat.{pow-le-pow-right, le-trans}
-use lib.Dec.{T, leb, leb→le}
+use lib.Dec.{leb→le}
 use lib.IntN.{ℤ, pos, negsuc, negℤ, natAbs, _+ℤ_, _-ℤ_, _*ℤ_}
 use lib.ListN.{length, drop, length-map}
 use lib.Seq.{take-all}
@@ -13,7 +13,8 @@ use lib.Signed.{_≤ℤ_, pos-natAbs, yes-nonNeg}
 use Rattle.integers.specs.Laws.Difference.{ints, byD₃}
 use Rattle.integers.specs.Laws.Signed.{≤ℤ-trans}
 use Rattle.integers.specs.Laws.Sums.{entries, lengths, ext, dot-bound, sized-more}
-use Rattle.integers.specs.Vectors.{«at», addV, subV, scaleV, dot, Bounded, Sized}
+use Rattle.integers.specs.Laws.Tests.{sized-small}
+use Rattle.integers.specs.Vectors.{small, «at», addV, subV, scaleV, dot, Bounded, Sized}
 use Rattle.lattice.specs.Basis.{basis, apply, pointOf}
 use Rattle.lattice.specs.Computed.{nearestPoint}
 use Rattle.lattice.specs.Laws.Rows.{Rows}
@@ -64,24 +65,10 @@ module _ (n A B : ℕ) (c : List ℤ) (h : Sized n B c) where
   apply-small (r ∷ M) k zero = row-small r (k .0)
   apply-small (r ∷ M) k (suc i) = apply-small M (k .1) i
 
--- every entry is at most B, as a test
-abbrev allSmall : ℕ → List ℤ → Bool
-allSmall B [] = true
-allSmall B (x ∷ a) = leb (natAbs x) B && allSmall B a
-
-both-of : (a b : Bool) → T (a && b) → T a × T b
-both-of true b t = (tt, t)
-both-of false b t = absurd t
-
-small-all : (B : ℕ) (a : List ℤ) → T (allSmall B a) → Bounded B a
-small-all B [] t i = omega arith
-small-all B (x ∷ a) t zero = leb→le (natAbs x) B (both-of (leb (natAbs x) B) (allSmall B a) t .0)
-small-all B (x ∷ a) t (suc i) = small-all B a (both-of (leb (natAbs x) B) (allSmall B a) t .1) i
-
 basis-small : Rows (Sized 8 4) basis
 basis-small =
-    let good : (r : List ℤ) → length r ≡ 8 → T (allSmall 4 r) → Sized 8 4 r = λ r h k. record { long = h; small = small-all 4 r k } in
-    (good _ refl tt, (good _ refl tt, (good _ refl tt, (good _ refl tt, (good _ refl tt, (good _ refl tt, (good _ refl tt, (good _ refl tt, tt))))))))
+    let good : (r : List ℤ) → length r ≡ 8 → small 4 r ≡ true → Sized 8 4 r = sized-small 8 4 in
+    (good _ refl refl, (good _ refl refl, (good _ refl refl, (good _ refl refl, (good _ refl refl, (good _ refl refl, (good _ refl refl, (good _ refl refl, tt))))))))
 
 pub pointOf-sized : (B : ℕ) (c : List ℤ) → Sized 8 B c → Sized 8 (8 * (4 * B)) (pointOf c)
 pointOf-sized B c h = record { long = refl; small = apply-small 8 4 B c h basis basis-small }

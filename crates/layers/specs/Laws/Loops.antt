@@ -1,4 +1,4 @@
--- What loops have done after i turns: over a list, where b is what they are to write; over digits; over layers.
+-- What loops have done after i turns: those that write b over lent bytes o, those over digits, those over layers.
 use mathlib.Core.Path.{_≡_, refl, sym, _∙_, ap, ap₂, subst}
 use mathlib.Core.List.{List, [], _∷_, _++_, append-nil, append-assoc}
 use Prim.Native.Nat.{ℕ, zero, suc, _+_, _*_, _-_, _<_, _≤_}
