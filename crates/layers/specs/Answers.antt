@@ -1,15 +1,16 @@
 -- What is answered where a point is coded or decoded by itself (01, Layers and steps).
 use mathlib.Core.Bool.{_&&_, cond}
-use mathlib.Core.List.{List, [], _∷_, _++_}
+use mathlib.Core.List.{List, [], _∷_}
 use Prim.Native.Nat.{ℕ, suc, _*_}
 use lib.Dec.{eqb, leb, ltb}
 use lib.IntN.{ℤ, natAbs}
-use lib.ListN.{length, drop}
+use lib.ListN.{length}
 use Rattle.integers.specs.Vectors.{small}
 use Rattle.refusals.specs.declared.settings.Settings.{Settings}
 use Rattle.refusals.specs.declared.Refusal.the-variants.{Size, Byte, Point}
 use Rattle.refusals.specs.declared.Verdict.{Verdict}
 use Rattle.refusals.specs.declared.Verdict.the-variants.{Accepted, Refused}
+use Rattle.refusals.specs.Answers.{written}
 use Rattle.refusals.specs.Limits.{pointMost}
 use Rattle.refusals.specs.Settings.{checkSettings}
 use Rattle.refusals.specs.Verdicts.{unless, firstRefusal}
@@ -17,11 +18,6 @@ use Rattle.lattice.specs.declared.PointAnswer.{PointAnswer}
 use Rattle.lattice.specs.Answers.{answered}
 use Rattle.lattice.specs.Doubled.{isPoint}
 use Rattle.layers.specs.E8.{digits8, leftover8, decode8}
-
--- lent bytes afterwards: f at their front and the rest as found; where it is refused, all as found
-abbrev pub written : Verdict → List ℕ → List ℕ → List ℕ
-written Accepted f out = f ++ drop (length f) out
-written (Refused r) f out = out
 
 -- ---- from a point to digits
 

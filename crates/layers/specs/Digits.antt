@@ -32,7 +32,7 @@ pub record IsCode (n q m : ℕ) (f : List ℕ) : Type 0 where
   pub below : Below q f
 
 -- the m layers of such a row
-abbrev pub cut : ℕ → ℕ → List ℕ → List (List ℕ)
+abbrev pub cut : {A : Type 0} → ℕ → ℕ → List A → List (List A)
 cut n zero f = []
 cut n (suc m) f = take n f ∷ cut n m (drop n f)
 

@@ -1,6 +1,7 @@
 // What is refused where a point is coded or decoded by itself, in the order of the checks.
 ghost use mathlib.Core.Path.{_≡_};
 ghost use mathlib.Core.Bool.{_&&_};
+ghost use Prim.Native.Nat.{_+_, _<_, _^_};
 ghost use lib.ListN.{length};
 ghost use Rattle.integers.specs.Vectors.{small};
 ghost use Rattle.refusals.specs.Limits.{pointMost};
@@ -45,14 +46,15 @@ pub fn check_point(s: Settings, e: &[i32], room: usize) -> Verdict
     }
 }
 
-// Refusal 7 with the place of the first digit that is not below q.
-fn check_below(ds: &[u8], q: usize) -> Verdict
-    ensures { λ r. ⌜ r ≡ checkBelow q 0 (now (ds .entry)) ⌝ }
+// Refusal 7 with the place of the first digit that is not below q, where the first digit's place is `first`.
+pub fn check_below(ds: &[u8], q: usize, first: usize) -> Verdict
+    requires { ⌜ first + length (now ds) < 2 ^ 64 ⌝ }
+    ensures { λ r. ⌜ r ≡ checkBelow q first (now (ds .entry)) ⌝ }
 {
     let mut i: usize = 0;
     while i < ds.len() {
         if ds[i] as usize >= q {
-            return Verdict::Refused(Refusal::Byte(i));
+            return Verdict::Refused(Refusal::Byte(first + i));
         }
         i = i + 1;
     }
@@ -67,7 +69,7 @@ pub fn check_digits(s: Settings, ds: &[u8]) -> Verdict
         Verdict::Refused(r) => Verdict::Refused(r),
         Verdict::Accepted => {
             if ds.len() == 8 * settings::layers(s) {
-                check_below(ds, settings::digit_values(s))
+                check_below(ds, settings::digit_values(s), 0)
             } else {
                 Verdict::Refused(Refusal::Size(0))
             }

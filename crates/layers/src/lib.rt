@@ -1,5 +1,5 @@
 // Points of E8 in layers of digits, and back (01, Layers and steps).
-mod asked;
+pub mod asked;
 pub mod digits;
 pub mod lookup;
 pub mod points;

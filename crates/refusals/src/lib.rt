@@ -3,7 +3,10 @@ pub mod settings;
 pub mod steps;
 
 ghost use mathlib.Core.Path.{_≡_};
+ghost use Rattle.refusals.specs.Answers.{valued};
 ghost use Rattle.refusals.specs.Verdicts.{numberOf, placeOf};
+ghost use Rattle.refusals.specs.declared.Verdict.the-variants.{Refused};
+ghost use lib.IntN.{pos};
 
 // A name for each row of 01's table. What it carries is its place.
 pub enum Refusal {
@@ -78,5 +81,21 @@ pub fn place_of(v: Verdict) -> usize
             Refusal::Record(p) => p,
             Refusal::EmptyStore => 0,
         },
+    }
+}
+
+// What an operation answers whose value is one number: it is 0 where the operation is refused.
+pub struct Answer {
+    pub verdict: Verdict,
+    pub value: i64,
+}
+
+// The answer of a refusal: no value.
+pub fn refused(r: Refusal) -> Answer
+    ensures { λ a. ⌜ a ≡ valued (Refused r) (pos 0) ⌝ }
+{
+    Answer {
+        verdict: Verdict::Refused(r),
+        value: 0,
     }
 }

@@ -13,9 +13,10 @@ use Rattle.integers.specs.Laws.Sums.{sized-more}
 use Rattle.integers.specs.Vectors.{Sized}
 use Rattle.refusals.specs.declared.Verdict.{Verdict}
 use Rattle.refusals.specs.declared.Verdict.the-variants.{Accepted}
+use Rattle.refusals.specs.Answers.{written}
 use Rattle.refusals.specs.Limits.{pointMost}
 use Rattle.lattice.specs.Answers.{answered}
-use Rattle.layers.specs.Answers.{written, checkPoint, coded, digitRoom}
+use Rattle.layers.specs.Answers.{checkPoint, coded, digitRoom}
 use Rattle.layers.specs.E8.{digits8, leftover8}
 use Rattle.layers.specs.Laws.Asked.{allowed-base, PointTaken, point-taken, leftover-narrow}
 use Rattle.layers.specs.Laws.E8.{digits8-long}

@@ -1,0 +1,3 @@
+-- Proved facts of blocks and steps.
+pub mod Fitting
+pub mod Sizes

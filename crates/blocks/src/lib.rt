@@ -1,0 +1,78 @@
+// One block of eight readings: what a step makes of it, and the first step of a list that fits (01, Layers and steps).
+ghost use mathlib.Core.Path.{_≡_};
+ghost use mathlib.Core.List.{_++_};
+ghost use Prim.Native.Nat.{_+_, _*_, _≤_};
+ghost use lib.IntN.{pos, natAbs};
+ghost use lib.ListN.{length, drop};
+ghost use Rattle.integers.specs.Vectors.{scaleV};
+ghost use Rattle.lattice.specs.Rounding.{Divisor};
+ghost use Rattle.layers.specs.E8.{e8, nearest, digits8};
+ghost use Rattle.layers.specs.Sizes.{Base};
+ghost use Rattle.blocks.specs.Trials.{allZero, pointAt, trial8, firstFitting, triedRoom};
+ghost use Rattle.blocks.specs.Limits.{Block, UsedSteps};
+
+// What a step makes of a block: the doubled point nearest to X / s, and what M layers leave over of it.
+pub struct Trial {
+    pub point: [i64; 8],
+    pub leftover: [i64; 8],
+}
+
+// Twice eight readings.
+fn doubled(x: &[i32]) -> [i64; 8]
+    requires { ⌜ length (now x) ≡ 8 ⌝ }
+    ensures { λ r. ⌜ r ≡ scaleV (pos 2) (now (x .entry)) ⌝ }
+{
+    let mut r: [i64; 8] = [0; 8];
+    let mut i: usize = 0;
+    while i < 8 {
+        r[i] = 2 * (x[i] as i64);
+        i = i + 1;
+    }
+    r
+}
+
+// Whether eight numbers are all 0.
+fn all_zero(e: &[i64; 8]) -> bool
+    requires { ⌜ length (now e) ≡ 8 ⌝ }
+    ensures { λ r. ⌜ r ≡ allZero (now (e .entry)) ⌝ }
+{
+    let mut i: usize = 0;
+    while i < 8 {
+        if e[i] != 0 {
+            return false;
+        }
+        i = i + 1;
+    }
+    true
+}
+
+// The trial of a block at a step. The digits of its point are written to the front of the lent bytes, layer 0 first.
+pub fn try_step(x: &[i32], s: i64, q: i64, m: usize, out: &mut [u8]) -> Trial
+    requires { ⌜ Block (now x) × Divisor s × Base q × (8 * m ≤ length (now out)) ⌝ }
+    ensures answer { λ r. ⌜ r ≡ trial8 (natAbs q) m s (now (x .entry)) ⌝ }
+    ensures room { λ _. ⌜ now (out .exit) ≡ digits8 (natAbs q) m (pointAt e8 nearest s (now (x .entry))) ++ drop (8 * m) (now (out .entry)) ⌝ }
+{
+    let point = lattice::point::nearest_point(&doubled(x), s);
+    let leftover = layers::digits::digits(&point, q, m, out);
+    Trial { point, leftover }
+}
+
+// T, the place of the first listed step that fits, or the list's length where none does. The block's bytes hold the trials in
+// turn: T and the digits of the one that fits, or else of the last.
+pub fn code_block(x: &[i32], steps: &[i32], q: i64, m: usize, out: &mut [u8]) -> usize
+    requires { ⌜ Block (now x) × UsedSteps (now steps) × Base q × (length (now out) ≡ 8 * m + 1) ⌝ }
+    ensures answer { λ r. ⌜ r ≡ firstFitting e8 nearest (natAbs q) m (now (steps .entry)) (now (x .entry)) ⌝ }
+    ensures room { λ _. ⌜ now (out .exit) ≡ triedRoom e8 nearest (natAbs q) m 0 (now (steps .entry)) (now (x .entry)) (now (out .entry)) ⌝ }
+{
+    let mut t: usize = 0;
+    while t < steps.len() {
+        out[0] = t as u8;
+        let found = try_step(x, steps[t] as i64, q, m, &mut out[1..]);
+        let leftover = found.leftover;
+        if all_zero(&leftover) {
+            return t;
+        }
+        t = t + 1;
+    }
+    t
+}
