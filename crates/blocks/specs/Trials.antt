@@ -11,10 +11,10 @@ use Rattle.layers.specs.Layers.{digits, leftover}
 use Rattle.layers.specs.Rule.{Lattice, Rule}
 use Rattle.blocks.specs.declared.Trial.{Trial}
 
--- every entry is 0
-abbrev pub allZero : List ℤ → Bool
-allZero [] = true
-allZero (x ∷ a) = eqb (natAbs x) 0 && allZero a
+-- nothing is left over: every entry is 0
+abbrev pub nothingLeft : List ℤ → Bool
+nothingLeft [] = true
+nothingLeft (x ∷ a) = eqb (natAbs x) 0 && nothingLeft a
 
 -- the point that X / s rounds to, doubled, as X is doubled for it
 abbrev pub pointAt : (L : Lattice) → Rule L → ℤ → List ℤ → List ℤ
@@ -23,7 +23,7 @@ pointAt L R s X = R .round s (scaleV (pos 2) X)
 module _ (L : Lattice) (R : Rule L) (q m : ℕ) where
   -- a step fits a block where m layers leave nothing over of that point; else it overloads
   abbrev pub fits : ℤ → List ℤ → Bool
-  fits s X = allZero (leftover L R q m (pointAt L R s X))
+  fits s X = nothingLeft (leftover L R q m (pointAt L R s X))
 
   -- T: the place, from 0, of the first listed step that fits; the list's length where none does
   abbrev pub firstFitting : List ℤ → List ℤ → ℕ

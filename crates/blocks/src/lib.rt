@@ -8,7 +8,7 @@ ghost use Rattle.integers.specs.Vectors.{scaleV};
 ghost use Rattle.lattice.specs.Rounding.{Divisor};
 ghost use Rattle.layers.specs.E8.{e8, nearest, digits8};
 ghost use Rattle.layers.specs.Sizes.{Base};
-ghost use Rattle.blocks.specs.Trials.{allZero, pointAt, trial8, firstFitting, triedRoom};
+ghost use Rattle.blocks.specs.Trials.{nothingLeft, pointAt, trial8, firstFitting, triedRoom};
 ghost use Rattle.blocks.specs.Limits.{Block, UsedSteps};
 
 // What a step makes of a block: the doubled point nearest to X / s, and what M layers leave over of it.
@@ -31,10 +31,10 @@ fn doubled(x: &[i32]) -> [i64; 8]
     r
 }
 
-// Whether eight numbers are all 0.
-fn all_zero(e: &[i64; 8]) -> bool
+// Whether nothing is left over: all eight numbers are 0.
+fn nothing_left(e: &[i64; 8]) -> bool
     requires { ⌜ length (now e) ≡ 8 ⌝ }
-    ensures { λ r. ⌜ r ≡ allZero (now (e .entry)) ⌝ }
+    ensures { λ r. ⌜ r ≡ nothingLeft (now (e .entry)) ⌝ }
 {
     let mut i: usize = 0;
     while i < 8 {
@@ -69,7 +69,7 @@ pub fn code_block(x: &[i32], steps: &[i32], q: i64, m: usize, out: &mut [u8]) ->
         out[0] = t as u8;
         let found = try_step(x, steps[t] as i64, q, m, &mut out[1..]);
         let leftover = found.leftover;
-        if all_zero(&leftover) {
+        if nothing_left(&leftover) {
             return t;
         }
         t = t + 1;

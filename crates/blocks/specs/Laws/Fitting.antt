@@ -1,0 +1,104 @@
+-- Which step is used: the first that fits, and no step fits exactly where the place is past the list.
+use mathlib.Core.Path.{_≡_, refl, sym, _∙_, ap, subst}
+use mathlib.Core.Logic.{_↔_}
+use mathlib.Core.Bool.{Bool, true, false, cond, false≢true}
+use mathlib.Core.List.{List, [], _∷_}
+use Prim.Native.Nat.{ℕ, zero, suc, _+_, _<_, _≤_}
+use native.Mathlib.Decide.{decLe}
+use native.Mathlib.Omega.{arith}
+use borrow.Author.Tests.{eqb-true}
+use lib.Dec.{eqb}
+use lib.IntN.{ℤ, pos, negsuc, natAbs}
+use lib.ListN.{length}
+use Rattle.integers.specs.Laws.Tests.{and-true}
+use Rattle.integers.specs.Vectors.{«at», zeros}
+use Rattle.layers.specs.Rule.{Lattice, Rule}
+use Rattle.blocks.specs.Trials.{nothingLeft, fits, firstFitting, codeAt, blockCode, triedRoom}
+
+-- every entry is 0 exactly where the vector is zeros
+zero-entry : (x : ℤ) → natAbs x ≡ 0 → x ≡ pos 0
+zero-entry (pos n) h = ap pos h
+zero-entry (negsuc n) h = absurd (omega arith)
+
+pub nothing-left : (a : List ℤ) → nothingLeft a ≡ true → a ≡ zeros (length a)
+nothing-left [] e = refl
+nothing-left (x ∷ a) e = let t = and-true (eqb (natAbs x) 0) (nothingLeft a) e in cons (zero-entry x (eqb-true (natAbs x) 0 (t .0))) (nothing-left a (t .1))
+  where
+    cons : {x y : ℤ} {a b : List ℤ} → x ≡ y → a ≡ b → x ∷ a ≡ y ∷ b
+    cons p r = cc
+
+pub zeros-nothing : (n : ℕ) → nothingLeft (zeros n) ≡ true
+zeros-nothing zero = refl
+zeros-nothing (suc n) = zeros-nothing n
+
+module _ (L : Lattice) (R : Rule L) (q m : ℕ) (X : List ℤ) where
+  abbrev ok : ℤ → Bool
+  ok s = fits L R q m s X
+
+  abbrev T : List ℤ → ℕ
+  T l = firstFitting L R q m l X
+
+  -- a loop over the list: what is left of it decides where the step before did not fit
+  pub fitting-here : (s : ℤ) (l : List ℤ) → ok s ≡ true → T (s ∷ l) ≡ 0
+  fitting-here s l e = ap (λ (b : Bool). cond b 0 (suc (T l))) e
+
+  pub fitting-later : (s : ℤ) (l : List ℤ) → ok s ≡ false → T (s ∷ l) ≡ suc (T l)
+  fitting-later s l e = ap (λ (b : Bool). cond b 0 (suc (T l))) e
+
+  pub tried-here : (t : ℕ) (s : ℤ) (l : List ℤ) (out : List ℕ) → ok s ≡ true → triedRoom L R q m t (s ∷ l) X out ≡ codeAt L R q m t s X
+  tried-here t s l out e = ap (λ (b : Bool). cond b (codeAt L R q m t s X) (triedRoom L R q m (suc t) l X (codeAt L R q m t s X))) e
+
+  pub tried-later : (t : ℕ) (s : ℤ) (l : List ℤ) (out : List ℕ) → ok s ≡ false → triedRoom L R q m t (s ∷ l) X out ≡ triedRoom L R q m (suc t) l X (codeAt L R q m t s X)
+  tried-later t s l out e = ap (λ (b : Bool). cond b (codeAt L R q m t s X) (triedRoom L R q m (suc t) l X (codeAt L R q m t s X))) e
+
+  -- the step in the place T fits, where there is one
+  pub first-fits : (l : List ℤ) → T l < length l → ok («at» l (T l)) ≡ true
+  first-fits [] h = absurd (omega arith)
+  first-fits (s ∷ l) h = go (ok s) refl (first-fits l)
+    where
+      go : (b : Bool) → ok s ≡ b → (T l < length l → ok («at» l (T l)) ≡ true) → ok («at» (s ∷ l) (T (s ∷ l))) ≡ true
+      go true e rest = ap (λ (t : ℕ). ok («at» (s ∷ l) t)) (fitting-here s l e) ∙ e
+      go false e rest = let k : T (s ∷ l) ≡ suc (T l) = fitting-later s l e in ap (λ (t : ℕ). ok («at» (s ∷ l) t)) k ∙ rest (omega arith)
+
+  -- and none before it does
+  pub none-before : (l : List ℤ) (j : ℕ) → j < T l → ok («at» l j) ≡ false
+  none-before [] j h = absurd (omega arith)
+  none-before (s ∷ l) j h = go (ok s) refl j h (none-before l)
+    where
+      go : (b : Bool) → ok s ≡ b → (j : ℕ) → j < T (s ∷ l) → ((j : ℕ) → j < T l → ok («at» l j) ≡ false) → ok («at» (s ∷ l) j) ≡ false
+      go true e j h rest = let k : T (s ∷ l) ≡ 0 = fitting-here s l e in absurd (omega arith)
+      go false e zero h rest = e
+      go false e (suc j) h rest = let k : T (s ∷ l) ≡ suc (T l) = fitting-later s l e in rest j (omega arith)
+
+  pub fitting-within : (l : List ℤ) → T l ≤ length l
+  fitting-within [] = omega arith
+  fitting-within (s ∷ l) = go (ok s) refl (fitting-within l)
+    where
+      go : (b : Bool) → ok s ≡ b → T l ≤ length l → T (s ∷ l) ≤ suc (length l)
+      go true e rest = let k : T (s ∷ l) ≡ 0 = fitting-here s l e in omega arith
+      go false e rest = let k : T (s ∷ l) ≡ suc (T l) = fitting-later s l e in omega arith
+
+  -- the room then holds the block's bytes
+  tried-from : (t : ℕ) (l : List ℤ) (out : List ℕ) → T l < length l → triedRoom L R q m t l X out ≡ codeAt L R q m (t + T l) («at» l (T l)) X
+  tried-from t [] out h = absurd (omega arith)
+  tried-from t (s ∷ l) out h = go (ok s) refl (tried-from (suc t) l (codeAt L R q m t s X))
+    where
+      go : (b : Bool) → ok s ≡ b → (T l < length l → triedRoom L R q m (suc t) l X (codeAt L R q m t s X) ≡ codeAt L R q m (suc t + T l) («at» l (T l)) X)
+          → triedRoom L R q m t (s ∷ l) X out ≡ codeAt L R q m (t + T (s ∷ l)) («at» (s ∷ l) (T (s ∷ l))) X
+      go true e rest = let k : T (s ∷ l) ≡ 0 = fitting-here s l e in let z : t ≡ t + 0 = omega arith in
+          tried-here t s l out e ∙ ap (λ (t : ℕ). codeAt L R q m t s X) z ∙ ap (λ (j : ℕ). codeAt L R q m (t + j) («at» (s ∷ l) j) X) (sym k)
+      go false e rest = let k : T (s ∷ l) ≡ suc (T l) = fitting-later s l e in let z : suc t + T l ≡ t + suc (T l) = omega arith in
+          tried-later t s l out e ∙ rest (omega arith) ∙ ap (λ (t : ℕ). codeAt L R q m t («at» l (T l)) X) z ∙ ap (λ (j : ℕ). codeAt L R q m (t + j) («at» (s ∷ l) j) X) (sym k)
+
+  pub tried-code : (l : List ℤ) (out : List ℕ) → T l < length l → triedRoom L R q m 0 l X out ≡ blockCode L R q m l X
+  tried-code l out h = let z : 0 + T l ≡ T l = omega arith in tried-from 0 l out h ∙ ap (λ (t : ℕ). codeAt L R q m t («at» l (T l)) X) z
+
+  -- some listed step fits exactly where T is within the list
+  pub fitting-iff : (l : List ℤ) → (T l < length l) ↔ ((j : ℕ) × (j < length l) × (ok («at» l j) ≡ true))
+  fitting-iff l = (λ h. (T l, h, first-fits l h), λ w. some (w .0) (w .1) (w .2))
+    where
+      some : (j : ℕ) → j < length l → ok («at» l j) ≡ true → T l < length l
+      some j h e = elim (decLe (length l) (T l)) [
+        | yes k ↦ absurd (false≢true (sym (none-before l j (omega arith)) ∙ e))
+        | no k ↦ omega arith
+      ]
