@@ -120,27 +120,30 @@ module _ (L : Lattice) (R : Rule L) (q m : ℕ) (X steps : List ℤ) (found : Li
     abbrev first : List ℤ → ℕ
     first l = firstFitting L R q m l X
 
+    abbrev s : ℤ
+    s = «at» steps t
+
+    abbrev rest : List ℤ
+    rest = drop (suc t) steps
+
     abbrev bytes : List ℕ
-    bytes = codeAt L R q m t («at» steps t) X
+    bytes = codeAt L R q m t s X
 
-    -- the step in the place t fits: it is the first, and its bytes stay
-    pub walked-here : t < length steps → fits L R q m («at» steps t) X ≡ true → (t ≡ first steps) × (bytes ≡ triedRoom L R q m 0 steps X found)
-    walked-here h e =
-        let s : ℤ = «at» steps t in let l : List ℤ = drop (suc t) steps in let o : drop t steps ≡ s ∷ l = drop-cons steps t (pos 0) h in let z : t ≡ t + 0 = omega arith in (
-          z ∙ sym (w .place ∙ ap (λ (r : List ℤ). t + first r) o ∙ ap (λ (k : ℕ). t + k) (fitting-here L R q m X s l e)),
-          sym (w .room ∙ ap (λ (r : List ℤ). triedRoom L R q m t r X out) o ∙ tried-here L R q m X t s l out e),
-        )
+    module _ (h : t < length steps) where
+      place-opened : first steps ≡ t + first (s ∷ rest)
+      place-opened = w .place ∙ ap (λ (l : List ℤ). t + first l) (drop-cons steps t (pos 0) h)
 
-    -- it does not: one turn more
-    pub walked-more : t < length steps → fits L R q m («at» steps t) X ≡ false → length bytes ≡ length found → Walked L R q m X steps found (t + 1) bytes
-    walked-more h e k =
-        let s : ℤ = «at» steps t in let l : List ℤ = drop (suc t) steps in let o : drop t steps ≡ s ∷ l = drop-cons steps t (pos 0) h in let z : t + suc (first l) ≡ suc t + first l = omega arith in
-        rw (add-one t) (record {
-          within = omega arith;
-          long = k;
-          place = w .place ∙ ap (λ (r : List ℤ). t + first r) o ∙ ap (λ (k : ℕ). t + k) (fitting-later L R q m X s l e) ∙ z;
-          room = w .room ∙ ap (λ (r : List ℤ). triedRoom L R q m t r X out) o ∙ tried-later L R q m X t s l out e;
-        })
+      room-opened : triedRoom L R q m 0 steps X found ≡ triedRoom L R q m t (s ∷ rest) X out
+      room-opened = w .room ∙ ap (λ (l : List ℤ). triedRoom L R q m t l X out) (drop-cons steps t (pos 0) h)
+
+      -- the step in the place t fits: it is the first, and its bytes stay
+      pub walked-here : fits L R q m s X ≡ true → (t ≡ first steps) × (bytes ≡ triedRoom L R q m 0 steps X found)
+      walked-here e = let k : first (s ∷ rest) ≡ 0 = fitting-here L R q m X s rest e in (omega (arith, place-opened), sym (room-opened ∙ tried-here L R q m X t s rest out e))
+
+      -- it does not: one turn more
+      pub walked-more : fits L R q m s X ≡ false → length bytes ≡ length found → Walked L R q m X steps found (t + 1) bytes
+      walked-more e long = let k : first (s ∷ rest) ≡ suc (first rest) = fitting-later L R q m X s rest e in
+          rw (add-one t) (record { within = omega arith; long = long; place = omega (arith, place-opened); room = room-opened ∙ tried-later L R q m X t s rest out e })
 
     -- after the last turn: no step fits, and the last one's bytes stay
     pub walked-all : length steps ≤ t → (t ≡ first steps) × (out ≡ triedRoom L R q m 0 steps X found)
