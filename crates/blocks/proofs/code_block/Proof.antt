@@ -129,16 +129,16 @@ loop-holds : tie.Need-loop-holds Inv-loop μ-loop
 loop-holds c = walked-none e8 nearest (natAbs (toZ w64 (ofZ w64 (c .before .args .q)))) (c .before .args .m) (c .before .args .x .now) (c .before .args .steps .now) (c .before .args .out .now)
 
 cast-out : tie.Need-cast-out Inv-loop μ-loop
-cast-out c = search needs
+cast-out c = record { fits = omega arith }
 
 slice-write-out : tie.Need-slice-write-out Inv-loop μ-loop
-slice-write-out c = search needs
+slice-write-out c = omega arith
 
 mul-try-step : tie.Need-mul-try-step Inv-loop μ-loop
-mul-try-step c = search needs
+mul-try-step c = omega arith
 
 shared-slice-copy-out-try-step : tie.Need-shared-slice-copy-out-try-step Inv-loop μ-loop
-shared-slice-copy-out-try-step c = search needs
+shared-slice-copy-out-try-step c = omega arith
 
 cast-try-step : tie.Need-cast-try-step Inv-loop μ-loop
 cast-try-step c = simp (toZ-ofZ, fz c) (gz c)
@@ -150,7 +150,7 @@ part-try-step-start : tie.Need-part-try-step-start Inv-loop μ-loop
 part-try-step-start c = omega (arith, out-long c)
 
 part-try-step-end : tie.Need-part-try-step-end Inv-loop μ-loop
-part-try-step-end c = search needs
+part-try-step-end c = omega arith
 
 try-step-requires : tie.Need-try-step-requires Inv-loop μ-loop
 try-step-requires c κs = let a = c .before in let b = s (l a) in
@@ -168,10 +168,10 @@ returns c =
     let h = walked-here e8 nearest (q l) (m l) (x l) (steps l) (found l) (t l) (l .loop .out) (walked l) (a p .before .loop-test .taken) (sym (tested p) ∙ c .if1 .taken) in (h .0, room-is p ∙ h .1)
 
 add-t : tie.Need-add-t Inv-loop μ-loop
-add-t c = search needs
+add-t c = omega arith
 
 loop-less : tie.Need-loop-less Inv-loop μ-loop
-loop-less c = search needs
+loop-less c = omega arith
 
 loop-again : tie.Need-loop-again Inv-loop μ-loop
 loop-again c =
@@ -180,7 +180,7 @@ loop-again c =
     (walked-more e8 nearest (q l) (m l) (x l) (steps l) (found l) (t l) (l .loop .out) (walked l) (a p .before .loop-test .taken) (sym (tested p) ∙ c .if1 .left) (code-long p))
 
 same-length-2 : tie.Need-same-length-2 Inv-loop μ-loop
-same-length-2 c = search needs
+same-length-2 c = c .before .loop .inv .long
 
 returns-2 : tie.Need-returns-2 Inv-loop μ-loop
 returns-2 c = let l = c .before in walked-all e8 nearest (q l) (m l) (x l) (steps l) (found l) (t l) (l .loop .out) (walked l) (omega arith)
