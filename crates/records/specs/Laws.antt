@@ -1,1 +1,2 @@
 -- Proved facts of records.
+pub mod Vectors
