@@ -2,5 +2,6 @@
 pub mod Frames
 pub mod Vectors
 pub mod Codes
+pub mod Encode
 pub mod Decode
 pub mod Laws

@@ -1,5 +1,6 @@
 // Records of readings and of codes: encode, decode, report (01, Bytes).
 pub mod codes;
+mod encode;
 pub mod frames;
 pub mod vectors;
 

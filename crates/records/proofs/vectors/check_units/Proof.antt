@@ -1,6 +1,6 @@
 -- `check_units` walks the readings: what is left of them gives the same verdict as all, until one is none.
 use mathlib.Core.Path.{_≡_, refl, sym, _∙_, ap, ap₂}
-use mathlib.Core.List.{List, _∷_}
+use mathlib.Core.List.{List, _∷_, map}
 use Prim.Native.Nat.{ℕ, suc, _-_, _≤_}
 use native.Mathlib.Numerals.{add-one}
 use native.Mathlib.Omega.{arith}
@@ -12,13 +12,13 @@ use mir.Syntax.{w32}
 use mir.Val.{SFits}
 use mir.Facts.{toZ-ofZ}
 use Rattle.readings.specs.Taking.{measureUnits}
-use Rattle.records.specs.Vectors.{unitsReadings, checkReadings}
+use Rattle.records.specs.Vectors.{checkReadings}
 use Rattle.records.specs.Laws.Vectors.{reading-taken, reading-missing, reading-beyond}
 use Rattle.records.proofs.vectors.check_units.Statement.{statement}
 use Rattle.records.proofs.vectors.check_units.Tie as tie
 
 abbrev Inv-loop : tie.InvT-loop
-Inv-loop x i₀ i = (i ≤ length x) × (checkReadings 0 (unitsReadings x) ≡ checkReadings i (unitsReadings (drop i x)))
+Inv-loop x i₀ i = (i ≤ length x) × (checkReadings 0 (map measureUnits x) ≡ checkReadings i (map measureUnits (drop i x)))
 
 abbrev μ-loop : tie.MeasureT-loop
 μ-loop x i₀ i = length x - i
@@ -43,8 +43,8 @@ module _ (c : tie.After-measure-units Inv-loop μ-loop) where
   measured : c .measure-units .result ≡ measureUnits X
   measured = c .measure-units .ensures ∙ ap measureUnits (toZ-ofZ fits)
 
-  opened : checkReadings 0 (unitsReadings x) ≡ checkReadings i (measureUnits X ∷ unitsReadings (drop (suc i) x))
-  opened = l .loop .inv .1 ∙ ap (λ (r : List ℤ). checkReadings i (unitsReadings r)) (drop-cons x i (pos 0) (c .before .before .loop-test .taken))
+  opened : checkReadings 0 (map measureUnits x) ≡ checkReadings i (measureUnits X ∷ map measureUnits (drop (suc i) x))
+  opened = l .loop .inv .1 ∙ ap (λ (r : List ℤ). checkReadings i (map measureUnits r)) (drop-cons x i (pos 0) (c .before .before .loop-test .taken))
 
 loop-holds : tie.Need-loop-holds Inv-loop μ-loop
 loop-holds c = (omega arith, refl)
@@ -70,23 +70,23 @@ loop-less c = omega arith
 loop-again : tie.Need-loop-again Inv-loop μ-loop
 loop-again c = let b = c .before .before in (
   omega arith,
-  rw (add-one (i b)) (opened b ∙ reading-taken (i b) _ (unitsReadings (drop (suc (i b)) (x b))) _ (sym (measured b) ∙ c .enum-told .given .1) .0),
+  rw (add-one (i b)) (opened b ∙ reading-taken (i b) _ (map measureUnits (drop (suc (i b)) (x b))) _ (sym (measured b) ∙ c .enum-told .given .1) .0),
 )
 
 enum-told-2 : tie.Need-enum-told-2 Inv-loop μ-loop
 enum-told-2 c = search needs
 
 returns : tie.Need-returns Inv-loop μ-loop
-returns c = let b = c .before .before in sym (opened b ∙ reading-missing (i b) _ (unitsReadings (drop (suc (i b)) (x b))) (sym (measured b) ∙ c .enum-told2 .given .1) .0)
+returns c = let b = c .before .before in sym (opened b ∙ reading-missing (i b) _ (map measureUnits (drop (suc (i b)) (x b))) (sym (measured b) ∙ c .enum-told2 .given .1) .0)
 
 enum-told-3 : tie.Need-enum-told-3 Inv-loop μ-loop
 enum-told-3 c = search needs
 
 returns-2 : tie.Need-returns-2 Inv-loop μ-loop
-returns-2 c = let b = c .before .before in sym (opened b ∙ reading-beyond (i b) _ (unitsReadings (drop (suc (i b)) (x b))) (sym (measured b) ∙ c .enum-told3 .given .1) .0)
+returns-2 c = let b = c .before .before in sym (opened b ∙ reading-beyond (i b) _ (map measureUnits (drop (suc (i b)) (x b))) (sym (measured b) ∙ c .enum-told3 .given .1) .0)
 
 returns-3 : tie.Need-returns-3 Inv-loop μ-loop
-returns-3 c = let l = c .before in sym (l .loop .inv .1 ∙ ap (λ (r : List ℤ). checkReadings (l .loop .i) (unitsReadings r)) (drop-of-length-le (l .before .args .x .now) {i = l .loop .i} (omega arith)))
+returns-3 c = let l = c .before in sym (l .loop .inv .1 ∙ ap (λ (r : List ℤ). checkReadings (l .loop .i) (map measureUnits r)) (drop-of-length-le (l .before .args .x .now) {i = l .loop .i} (omega arith)))
 
 pub check-units-spec : {M : Type 1} → statement M
 check-units-spec =
