@@ -4,4 +4,5 @@ pub mod Vectors
 pub mod Codes
 pub mod Encode
 pub mod Decode
+pub mod Report
 pub mod Laws

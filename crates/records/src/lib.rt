@@ -2,6 +2,7 @@
 pub mod codes;
 mod encode;
 pub mod frames;
+pub mod report;
 pub mod vectors;
 
 ghost use mathlib.Core.Path.{_≡_};
