@@ -7,7 +7,6 @@ pub mod Theorems
 pub mod Widths
 pub mod Inner
 pub mod Rows
-pub mod Cuts
 pub mod Entries
 pub mod Loops
 pub mod Bases

@@ -1,3 +1,5 @@
 -- Proved facts of records.
+pub mod Parts
 pub mod Vectors
+pub mod Codes
 pub mod Encode
