@@ -29,3 +29,7 @@ stepMost = 1024
 -- a coordinate of a doubled point, or of what the nearest point is asked for (01, The lattice)
 abbrev pub pointMost : ℕ
 pointMost = 2 ^ 26
+
+-- K, the number of blocks of a vector (01, Readings and units)
+abbrev pub blocksMost : ℕ
+blocksMost = 64
