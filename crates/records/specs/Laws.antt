@@ -1,1 +1,3 @@
 -- Proved facts of records.
+pub mod Parts
+pub mod Codes
