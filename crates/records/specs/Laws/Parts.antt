@@ -1,12 +1,13 @@
--- A row cut into parts of n: part i, and the parts from it on.
-use mathlib.Core.Path.{_≡_, _∙_, ap, ap₂}
-use mathlib.Core.List.{List, _∷_}
-use Prim.Native.Nat.{ℕ, suc, _+_, _*_, _-_, _<_, _≤_}
+-- Parts of a row: cut into n each; made part by part and joined; written part by part over lent bytes.
+use mathlib.Core.Path.{_≡_, refl, sym, _∙_, ap, ap₂}
+use mathlib.Core.List.{List, [], _∷_, _++_, map, map-append, append-nil, append-assoc}
+use Prim.Native.Nat.{ℕ, zero, suc, _+_, _*_, _-_, _<_, _≤_}
 use native.Mathlib.Nat.{mul-le-mul, le-refl}
+use native.Mathlib.Numerals.{add-one}
 use native.Mathlib.Omega.{arith}
-use lib.ListN.{take, drop}
-use lib.Seq.{drop-drop}
-use Rattle.layers.specs.Digits.{cut}
+use lib.ListN.{length, getD, take, drop, length-append}
+use lib.Seq.{take-suc, take-at, drop-at, drop-drop}
+use Rattle.layers.specs.Digits.{joined, cut}
 
 -- a part ends where the next begins, which is not past the last part's end
 pub part-ends : (n i k : ℕ) → i < k → n * i + n ≤ n * k
@@ -22,3 +23,40 @@ module _ {A : Type 0} (n : ℕ) (f : List A) where
   cut-next k i h =
       let g : List A = drop (n * i) f in let e : k - i ≡ suc (k - (i + 1)) = omega arith in let s : n * i + n ≡ n * (i + 1) = omega arith in
       ap (λ (j : ℕ). cut n j g) e ∙ ap (λ (r : List A). take n g ∷ cut n (k - (i + 1)) r) (drop-drop n (n * i) f ∙ ap (λ (j : ℕ). drop j f) s)
+
+module _ {A : Type 0} (n : ℕ) where
+  pub cut-long : (k : ℕ) (f : List A) → length (cut n k f) ≡ k
+  cut-long zero f = refl
+  cut-long (suc k) f = ap suc (cut-long k (drop n f))
+
+  -- the parts up to i + 1 are those up to i and part i
+  pub cut-more : (i : ℕ) (f : List A) → cut n (i + 1) f ≡ cut n i f ++ (take n (drop (n * i) f) ∷ [])
+  cut-more i f = ap (λ (j : ℕ). cut n j f) (add-one i) ∙ go i f
+    where
+      go : (i : ℕ) (f : List A) → cut n (suc i) f ≡ cut n i f ++ (take n (drop (n * i) f) ∷ [])
+      go zero f = let z : 0 ≡ n * 0 = omega arith in ap (λ (j : ℕ). take n (drop j f) ∷ []) z
+      go (suc i) f = let s : n + n * i ≡ n * suc i = omega arith in
+          ap (λ (r : List (List A)). take n f ∷ r) (go i (drop n f) ∙ ap (λ (g : List A). cut n i (drop n f) ++ (take n g ∷ [])) (drop-drop (n * i) n f ∙ ap (λ (j : ℕ). drop j f) s))
+
+module _ {A : Type 0} where
+  pub joined-append : (a b : List (List A)) → joined (a ++ b) ≡ joined a ++ joined b
+  joined-append [] b = refl
+  joined-append (x ∷ a) b = ap (λ (l : List A). x ++ l) (joined-append a b) ∙ sym (append-assoc x (joined a) (joined b))
+
+module _ {A B : Type 0} (f : A → List B) where
+  -- one part more
+  pub joined-more : (l : List A) (x : A) → joined (map f (l ++ (x ∷ []))) ≡ joined (map f l) ++ f x
+  joined-more l x = ap joined (map-append f l (x ∷ [])) ∙ joined-append (map f l) (f x ∷ []) ∙ ap (λ (r : List B). joined (map f l) ++ r) (append-nil (f x))
+
+  pub joined-take : (l : List A) (i : ℕ) (d : A) → i < length l → joined (map f (take (i + 1) l)) ≡ joined (map f (take i l)) ++ f (getD l i d)
+  joined-take l i d h = ap (λ (r : List A). joined (map f r)) (ap (λ (j : ℕ). take j l) (add-one i) ∙ take-suc l i d h) ∙ joined-more (take i l) (getD l i d)
+
+  -- parts of k each
+  pub joined-long : (k : ℕ) → ((x : A) → length (f x) ≡ k) → (l : List A) → length (joined (map f l)) ≡ k * length l
+  joined-long k h [] = omega arith
+  joined-long k h (x ∷ l) = simp length-append (omega (arith, h x, joined-long k h l))
+
+-- b is written in place of k bytes after what was written before, w, over the rest of o
+pub write-over : {A : Type 0} (w b o : List A) (a k : ℕ) → length w ≡ a → let x = w ++ drop a o in take a x ++ b ++ drop (a + k) x ≡ (w ++ b) ++ drop (a + k) o
+write-over w b o a k h = let rest = drop-at w (drop a o) a h in
+    ap₂ (λ (f g : List _). f ++ b ++ g) (take-at w (drop a o) a h) (sym (drop-drop k a (w ++ drop a o)) ∙ ap (drop k) rest ∙ drop-drop k a o)
