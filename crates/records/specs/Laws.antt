@@ -1,3 +1,4 @@
 -- Proved facts of records.
 pub mod Parts
 pub mod Codes
+pub mod Decode

@@ -5,13 +5,17 @@ use Prim.Native.Nat.{ℕ, zero, suc, _+_, _*_, _-_, _<_, _≤_}
 use native.Mathlib.Nat.{mul-le-mul, le-refl}
 use native.Mathlib.Numerals.{add-one}
 use native.Mathlib.Omega.{arith}
-use lib.ListN.{length, getD, take, drop, length-append}
-use lib.Seq.{take-suc, take-at, drop-at, drop-drop}
+use lib.ListN.{length, getD, take, drop, length-append, length-drop}
+use lib.Seq.{take-all, take-suc, take-at, drop-at, drop-drop}
 use Rattle.layers.specs.Digits.{joined, cut}
 
 -- a part ends where the next begins, which is not past the last part's end
 pub part-ends : (n i k : ℕ) → i < k → n * i + n ≤ n * k
 part-ends n i k h = let e : n * suc i ≤ n * k = mul-le-mul (le-refl n) h in omega arith
+
+-- what is lent from a to the end is all from a on
+pub rest-whole : {A : Type 0} (a : ℕ) (f : List A) → take (length f - a) (drop a f) ≡ drop a f
+rest-whole a f = take-all (length f - a) (drop a f) (simp length-drop (omega arith))
 
 module _ {A : Type 0} (n : ℕ) (f : List A) where
   -- the parts from 0 on are all
