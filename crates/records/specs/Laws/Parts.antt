@@ -55,12 +55,17 @@ module _ {A B : Type 0} (f : A → List B) where
   pub joined-take : (l : List A) (i : ℕ) (d : A) → i < length l → joined (map f (take (i + 1) l)) ≡ joined (map f (take i l)) ++ f (getD l i d)
   joined-take l i d h = ap (λ (r : List A). joined (map f r)) (ap (λ (j : ℕ). take j l) (add-one i) ∙ take-suc l i d h) ∙ joined-more (take i l) (getD l i d)
 
-  -- parts of k each
-  pub joined-long : (k : ℕ) → ((x : A) → length (f x) ≡ k) → (l : List A) → length (joined (map f l)) ≡ k * length l
-  joined-long k h [] = omega arith
-  joined-long k h (x ∷ l) = simp length-append (omega (arith, h x, joined-long k h l))
+module _ {A : Type 0} (w o : List A) (a : ℕ) where
+  -- what was written before the rest of o is as long as its place says
+  pub front-long : (x : List A) → x ≡ w ++ drop a o → length x ≡ length o → a ≤ length o → length w ≡ a
+  front-long x e h k = omega (arith, simp (length-append, length-drop) at (ap length e))
 
--- b is written in place of k bytes after what was written before, w, over the rest of o
-pub write-over : {A : Type 0} (w b o : List A) (a k : ℕ) → length w ≡ a → let x = w ++ drop a o in take a x ++ b ++ drop (a + k) x ≡ (w ++ b) ++ drop (a + k) o
-write-over w b o a k h = let rest = drop-at w (drop a o) a h in
-    ap₂ (λ (f g : List _). f ++ b ++ g) (take-at w (drop a o) a h) (sym (drop-drop k a (w ++ drop a o)) ∙ ap (drop k) rest ∙ drop-drop k a o)
+  -- b is written after it, in place of k bytes
+  pub write-over : (b : List A) (k : ℕ) → length w ≡ a → let x = w ++ drop a o in take a x ++ b ++ drop (a + k) x ≡ (w ++ b) ++ drop (a + k) o
+  write-over b k h = let x : List A = w ++ drop a o in
+      ap₂ (λ (f g : List A). f ++ b ++ g) (take-at w (drop a o) a h) (sym (drop-drop k a x) ∙ ap (drop k) (drop-at w (drop a o) a h) ∙ drop-drop k a o)
+
+  -- the same where the part from a to a + k was lent for it
+  pub write-lent : (b : List A) (k : ℕ) → length w ≡ a → let x = w ++ drop a o in take a x ++ (b ++ drop k (drop a x)) ≡ (w ++ b) ++ drop (a + k) o
+  write-lent b k h = let x : List A = w ++ drop a o in
+      sym (append-assoc (take a x) b (drop k (drop a x))) ∙ ap (λ (g : List A). take a x ++ b ++ g) (drop-drop k a x) ∙ write-over b k h

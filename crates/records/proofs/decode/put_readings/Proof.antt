@@ -6,14 +6,14 @@ use Prim.Native.Nat.{ℕ, _+_, _*_, _-_, _≤_}
 use native.Mathlib.Omega.{arith}
 use lib.IntN.{ℤ, pos}
 use lib.ListN.{length, take, drop, drop-of-length-le}
-use lib.Seq.{take-all, length-take-le}
+use lib.Seq.{take-all}
 use mir.Syntax.{w64}
 use mir.Val.{SFits, toZ}
 use mir.Facts.{toZ-ofZ}
 use Rattle.integers.specs.Vectors.{«at»}
 use Rattle.layers.specs.Digits.{joined}
 use Rattle.records.specs.Decode.{readingBytes}
-use Rattle.records.specs.Laws.Parts.{joined-take, joined-long, write-over}
+use Rattle.records.specs.Laws.Parts.{joined-take, front-long, write-over}
 use Rattle.records.proofs.decode.put_readings.Statement.{statement}
 use Rattle.records.proofs.decode.put_readings.Tie as tie
 
@@ -47,7 +47,7 @@ module _ (l : tie.At-loop Inv-loop μ-loop) where
   out-is = simp (toZ-ofZ, start .fits .s) at (l .loop .inv .2)
 
   written-long : length written ≡ 4 * i
-  written-long = joined-long (readingBytes s) 4 (λ x. refl) (take i e) ∙ ap (λ (k : ℕ). 4 * k) (length-take-le i e (omega (arith, start .pre .0 .long)))
+  written-long = front-long written found (4 * i) (l .loop .out) out-is (omega (arith, start .pre .1)) (omega (arith, start .pre .1))
 
 -- the coordinate i
 module _ (c : tie.After-put-decoded-arg2 Inv-loop μ-loop) where
@@ -70,7 +70,7 @@ module _ (c : tie.After-put-decoded Inv-loop μ-loop) where
       let bytes : List ℕ = readingBytes (s b) (x (c .before)) in let four : 4 * i b + 4 ≡ 4 * (i b + 1) = omega arith in
       (simp (toZ-ofZ, start b .fits .s, fits (c .before)) at (c .put-decoded .ensures))
       ∙ ap (λ (o : List ℕ). take (4 * i b) o ++ bytes ++ drop (4 * i b + 4) o) (out-is b)
-      ∙ write-over (written b) bytes (found b) (4 * i b) 4 (written-long b)
+      ∙ write-over (written b) (found b) (4 * i b) bytes 4 (written-long b)
       ∙ ap₂ (λ (w : List ℕ) (k : ℕ). w ++ drop k (found b)) (sym (joined-take (readingBytes (s b)) (e b) (i b) (pos 0) (omega (arith, start b .pre .0 .long)))) four
 
 loop-holds : tie.Need-loop-holds Inv-loop μ-loop
