@@ -1,8 +1,9 @@
 -- From codes to readings (01, Layers and steps; Bytes).
+use mathlib.Core.Path.{_≡_}
 use mathlib.Core.List.{List, [], _∷_, _++_, map}
-use Prim.Native.Nat.{ℕ, _+_, _*_}
+use Prim.Native.Nat.{ℕ, _+_, _*_, _^_, _≤_}
 use lib.Dec.{leb}
-use lib.IntN.{ℤ, pos, natAbs}
+use lib.IntN.{ℤ, pos, natAbs, _*ℤ_}
 use lib.ListN.{length, getD, drop}
 use lib.Ieee.{binary32, toBits}
 use Rattle.integers.specs.Vectors.{«at»}
@@ -31,6 +32,11 @@ wholePoint q m b = decode8 q m (drop 1 b)
 -- a decoded reading s·e / 2048 as the four bytes of its binary32 pattern
 abbrev pub readingBytes : ℤ → ℤ → List ℕ
 readingBytes s e = bytesOf (toBits binary32 (decodedValue s e))
+
+-- eight coordinates whose readings at the step s are exact in single precision
+pub record Readable (s : ℤ) (e : List ℤ) : Type 0 where
+  pub long : length e ≡ 8
+  pub exact : (i : ℕ) → natAbs (s *ℤ «at» e i) ≤ 2 ^ 24
 
 -- the 32 bytes of a decoded block
 abbrev pub decodedBytes : ℕ → ℕ → List ℤ → List ℕ → List ℕ

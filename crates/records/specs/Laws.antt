@@ -3,3 +3,4 @@ pub mod Parts
 pub mod Vectors
 pub mod Codes
 pub mod Encode
+pub mod Decode

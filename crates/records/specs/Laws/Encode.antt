@@ -2,7 +2,7 @@
 use mathlib.Core.Path.{_≡_, _∙_, ap}
 use mathlib.Core.Bool.{Bool, cond}
 use mathlib.Core.List.{List, [], _∷_, _++_}
-use Prim.Native.Nat.{ℕ, suc, _*_, _<_, _≤_}
+use Prim.Native.Nat.{ℕ, suc, _+_, _*_, _<_, _≤_}
 use native.Mathlib.Omega.{arith}
 use borrow.Author.Tests.{lt-ltb, le-ltb}
 use lib.IntN.{ℤ}
@@ -35,5 +35,5 @@ module _ (q m : ℕ) (steps : List ℤ) where
   codeBytes-long [] = omega arith
   codeBytes-long (X ∷ l) = simp length-append (omega (arith, block-long8 q m steps X, codeBytes-long l))
 
-  pub codeBytes-more : (i : ℕ) (X : List ℤ) → codeBytes q m steps (cut 8 (suc i) X) ≡ codeBytes q m steps (cut 8 i X) ++ blockCode e8 nearest q m steps (take 8 (drop (8 * i) X))
+  pub codeBytes-more : (i : ℕ) (X : List ℤ) → codeBytes q m steps (cut 8 (i + 1) X) ≡ codeBytes q m steps (cut 8 i X) ++ blockCode e8 nearest q m steps (take 8 (drop (8 * i) X))
   codeBytes-more i X = ap (codeBytes q m steps) (cut-more 8 i X) ∙ joined-more (blockCode e8 nearest q m steps) (cut 8 i X) (take 8 (drop (8 * i) X))

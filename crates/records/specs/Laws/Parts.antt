@@ -1,16 +1,21 @@
--- A row cut into parts of n: part i, and the parts from it on; and what is made of the parts, joined.
+-- Parts of a row: cut into n each; made part by part and joined; written part by part over lent bytes.
 use mathlib.Core.Path.{_≡_, refl, sym, _∙_, ap, ap₂}
-use mathlib.Core.List.{List, [], _∷_, _++_, map, append-nil, append-assoc}
+use mathlib.Core.List.{List, [], _∷_, _++_, map, map-append, append-nil, append-assoc}
 use Prim.Native.Nat.{ℕ, zero, suc, _+_, _*_, _-_, _<_, _≤_}
 use native.Mathlib.Nat.{mul-le-mul, le-refl}
+use native.Mathlib.Numerals.{add-one}
 use native.Mathlib.Omega.{arith}
-use lib.ListN.{length, take, drop}
-use lib.Seq.{drop-drop}
+use lib.ListN.{length, getD, take, drop, length-append, length-drop}
+use lib.Seq.{take-all, take-suc, take-at, drop-at, drop-drop}
 use Rattle.layers.specs.Digits.{joined, cut}
 
 -- a part ends where the next begins, which is not past the last part's end
 pub part-ends : (n i k : ℕ) → i < k → n * i + n ≤ n * k
 part-ends n i k h = let e : n * suc i ≤ n * k = mul-le-mul (le-refl n) h in omega arith
+
+-- what is lent from a to the end is all from a on
+pub rest-whole : {A : Type 0} (a : ℕ) (f : List A) → take (length f - a) (drop a f) ≡ drop a f
+rest-whole a f = take-all (length f - a) (drop a f) (simp length-drop (omega arith))
 
 module _ {A : Type 0} (n : ℕ) (f : List A) where
   -- the parts from 0 on are all
@@ -23,18 +28,44 @@ module _ {A : Type 0} (n : ℕ) (f : List A) where
       let g : List A = drop (n * i) f in let e : k - i ≡ suc (k - (i + 1)) = omega arith in let s : n * i + n ≡ n * (i + 1) = omega arith in
       ap (λ (j : ℕ). cut n j g) e ∙ ap (λ (r : List A). take n g ∷ cut n (k - (i + 1)) r) (drop-drop n (n * i) f ∙ ap (λ (j : ℕ). drop j f) s)
 
-pub cut-long : {A : Type 0} (n k : ℕ) (f : List A) → length (cut n k f) ≡ k
-cut-long n zero f = refl
-cut-long n (suc k) f = ap suc (cut-long n k (drop n f))
+module _ {A : Type 0} (n : ℕ) where
+  pub cut-long : (k : ℕ) (f : List A) → length (cut n k f) ≡ k
+  cut-long zero f = refl
+  cut-long (suc k) f = ap suc (cut-long k (drop n f))
 
--- one part more
-pub cut-more : {A : Type 0} (n i : ℕ) (f : List A) → cut n (suc i) f ≡ cut n i f ++ (take n (drop (n * i) f) ∷ [])
-cut-more n zero f = let e : 0 ≡ n * 0 = omega arith in ap (λ (j : ℕ). take n (drop j f) ∷ []) e
-cut-more n (suc i) f =
-    let e : n + n * i ≡ n * suc i = omega arith in
-    ap (λ l. take n f ∷ l) (cut-more n i (drop n f) ∙ ap (λ r. cut n i (drop n f) ++ (take n r ∷ [])) (drop-drop (n * i) n f ∙ ap (λ (j : ℕ). drop j f) e))
+  -- the parts up to i + 1 are those up to i and part i
+  pub cut-more : (i : ℕ) (f : List A) → cut n (i + 1) f ≡ cut n i f ++ (take n (drop (n * i) f) ∷ [])
+  cut-more i f = ap (λ (j : ℕ). cut n j f) (add-one i) ∙ go i f
+    where
+      go : (i : ℕ) (f : List A) → cut n (suc i) f ≡ cut n i f ++ (take n (drop (n * i) f) ∷ [])
+      go zero f = let z : 0 ≡ n * 0 = omega arith in ap (λ (j : ℕ). take n (drop j f) ∷ []) z
+      go (suc i) f = let s : n + n * i ≡ n * suc i = omega arith in
+          ap (λ (r : List (List A)). take n f ∷ r) (go i (drop n f) ∙ ap (λ (g : List A). cut n i (drop n f) ++ (take n g ∷ [])) (drop-drop (n * i) n f ∙ ap (λ (j : ℕ). drop j f) s))
 
--- and what is made of it
-pub joined-more : {A B : Type 0} (f : A → List B) (l : List A) (x : A) → joined (map f (l ++ (x ∷ []))) ≡ joined (map f l) ++ f x
-joined-more f [] x = append-nil (f x)
-joined-more f (y ∷ l) x = ap (λ t. f y ++ t) (joined-more f l x) ∙ sym (append-assoc (f y) (joined (map f l)) (f x))
+module _ {A : Type 0} where
+  pub joined-append : (a b : List (List A)) → joined (a ++ b) ≡ joined a ++ joined b
+  joined-append [] b = refl
+  joined-append (x ∷ a) b = ap (λ (l : List A). x ++ l) (joined-append a b) ∙ sym (append-assoc x (joined a) (joined b))
+
+module _ {A B : Type 0} (f : A → List B) where
+  -- one part more
+  pub joined-more : (l : List A) (x : A) → joined (map f (l ++ (x ∷ []))) ≡ joined (map f l) ++ f x
+  joined-more l x = ap joined (map-append f l (x ∷ [])) ∙ joined-append (map f l) (f x ∷ []) ∙ ap (λ (r : List B). joined (map f l) ++ r) (append-nil (f x))
+
+  pub joined-take : (l : List A) (i : ℕ) (d : A) → i < length l → joined (map f (take (i + 1) l)) ≡ joined (map f (take i l)) ++ f (getD l i d)
+  joined-take l i d h = ap (λ (r : List A). joined (map f r)) (ap (λ (j : ℕ). take j l) (add-one i) ∙ take-suc l i d h) ∙ joined-more (take i l) (getD l i d)
+
+module _ {A : Type 0} (w o : List A) (a : ℕ) where
+  -- what was written before the rest of o is as long as its place says
+  pub front-long : (x : List A) → x ≡ w ++ drop a o → length x ≡ length o → a ≤ length o → length w ≡ a
+  front-long x e h k = omega (arith, simp (length-append, length-drop) at (ap length e))
+
+  -- b is written after it, in place of k bytes
+  pub write-over : (b : List A) (k : ℕ) → length w ≡ a → let x = w ++ drop a o in take a x ++ b ++ drop (a + k) x ≡ (w ++ b) ++ drop (a + k) o
+  write-over b k h = let x : List A = w ++ drop a o in
+      ap₂ (λ (f g : List A). f ++ b ++ g) (take-at w (drop a o) a h) (sym (drop-drop k a x) ∙ ap (drop k) (drop-at w (drop a o) a h) ∙ drop-drop k a o)
+
+  -- the same where the part from a to a + k was lent for it
+  pub write-lent : (b : List A) (k : ℕ) → length w ≡ a → let x = w ++ drop a o in take a x ++ (b ++ drop k (drop a x)) ≡ (w ++ b) ++ drop (a + k) o
+  write-lent b k h = let x : List A = w ++ drop a o in
+      sym (append-assoc (take a x) b (drop k (drop a x))) ∙ ap (λ (g : List A). take a x ++ b ++ g) (drop-drop k a x) ∙ write-over b k h

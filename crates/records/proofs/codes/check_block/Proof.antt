@@ -3,18 +3,18 @@ use borrow.Author.Needs.{needs}
 use mathlib.Core.Path.{_≡_, sym, _∙_, ap, ap₂}
 use mathlib.Core.Bool.{Bool, cond}
 use mathlib.Core.List.{List}
-use Prim.Native.Nat.{ℕ, suc, _-_}
+use Prim.Native.Nat.{ℕ, suc}
 use native.Mathlib.Numerals.{add-one}
 use native.Mathlib.Omega.{arith}
 use borrow.Author.Tests.{lt-ltb, le-ltb}
 use lib.Dec.{ltb}
-use lib.ListN.{length, getD, take, drop, length-drop}
-use lib.Seq.{take-all}
+use lib.ListN.{getD, drop}
 use Rattle.refusals.specs.declared.Refusal.the-variants.{Byte}
 use Rattle.refusals.specs.declared.Verdict.the-variants.{Refused}
 use Rattle.layers.specs.Answers.{checkBelow}
 use Rattle.records.specs.Codes.{checkBlock}
 use Rattle.records.specs.Laws.Codes.{block-opened}
+use Rattle.records.specs.Laws.Parts.{rest-whole}
 use Rattle.records.proofs.codes.check_block.Statement.{statement}
 use Rattle.records.proofs.codes.check_block.Tie as tie
 
@@ -54,8 +54,7 @@ check-below-requires c κs = search needs
 
 returns : tie.Need-returns
 returns c = let w = c .before .before .before in let v = s w .args in
-    let digits : take (length (b w) - 1) (drop 1 (b w)) ≡ drop 1 (b w) = take-all (length (b w) - 1) (drop 1 (b w)) (simp length-drop (omega arith)) in
-    c .check-below .ensures ∙ ap₂ (checkBelow (v .q)) (add-one (v .first)) digits
+    c .check-below .ensures ∙ ap₂ (checkBelow (v .q)) (add-one (v .first)) (rest-whole 1 (b w))
     ∙ sym (decided w _ (lt-ltb (getD (b w) 0 0) (v .steps) (omega (arith, w .wide .ensures .0, c .before .before .if1 .taken))))
 
 returns-2 : tie.Need-returns-2

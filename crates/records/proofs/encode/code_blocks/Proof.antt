@@ -192,7 +192,7 @@ module _ (c : tie.After-code-block Inv-loop μ-loop) where
       ap₂ (λ (k : ℕ) (p : List ℕ). putMid a k (at .loop .out) p) (size b) (part-is h)
       ∙ ap (λ (x : List ℕ). take a x ++ (code ++ drop (n at) (drop a x))) (out-is at)
       ∙ write-in before code (found at) a (n at) (bytes-long at)
-      ∙ ap₂ (λ (w : List ℕ) (j : ℕ). w ++ drop j (found at)) (sym (ap (λ (j : ℕ). codeBytes (q at) (m at) (steps at) (cut 8 j (X at))) (add-one (i at)) ∙ codeBytes-more (q at) (m at) (steps at) (i at) (X at))) next
+      ∙ ap₂ (λ (w : List ℕ) (j : ℕ). w ++ drop j (found at)) (sym (codeBytes-more (q at) (m at) (steps at) (i at) (X at))) next
 
 same-length : tie.Need-same-length Inv-loop μ-loop
 same-length c = search needs
