@@ -75,6 +75,18 @@ fn put_blocks(
     }
 }
 
+// The same, having the table itself, once for all blocks.
+fn put_body(steps: &[i32], body: &[u8], q: i64, m: usize, k: usize, out: &mut [u8])
+    requires { ⌜ Coder q m (now steps) × AreBlocks (length (now steps)) (natAbs q) m k (now body) × (32 * k ≤ length (now out)) ⌝ }
+    ensures { λ _. ⌜ now (out .exit) ≡ joined (map (decodedBytes (natAbs q) m (now (steps .entry))) (cut (blockSize m) k (now (body .entry)))) ++ drop (32 * k) (now (out .entry)) ⌝ }
+{
+    if q == 2 {
+        put_blocks(&table::layer_points(), steps, body, q, m, k, out)
+    } else {
+        put_blocks(&[0; 1], steps, body, q, m, k, out)
+    }
+}
+
 // A checked record, decoded: the dimension, then the blocks; how many bytes these are.
 fn put_record(steps: &[i32], code: &[u8], q: i64, m: usize, out: &mut [u8]) -> usize
     requires { ⌜ Coder q m (now steps) × (4 ≤ length (now code)) × (blocksIn m (now code) ≤ 64) × AreBlocks (length (now steps)) (natAbs q) m (blocksIn m (now code)) (drop 4 (now code)) × (fvecsLength (blocksIn m (now code)) ≤ length (now out)) ⌝ }
@@ -83,19 +95,7 @@ fn put_record(steps: &[i32], code: &[u8], q: i64, m: usize, out: &mut [u8]) -> u
 {
     let k = codes::blocks_in(code, m);
     words::put_word(out, 0, (8 * k) as u32);
-    if q == 2 {
-        put_blocks(
-            &table::layer_points(),
-            steps,
-            &code[4..],
-            q,
-            m,
-            k,
-            &mut out[4..],
-        );
-    } else {
-        put_blocks(&[0; 1], steps, &code[4..], q, m, k, &mut out[4..]);
-    }
+    put_body(steps, &code[4..], q, m, k, &mut out[4..]);
     4 + 32 * k
 }
 
