@@ -51,15 +51,7 @@ fn put_block(t: &[i8], steps: &[i32], b: &[u8], q: i64, m: usize, out: &mut [u8]
 }
 
 // The first k blocks of a record's body, decoded each into its own part of the lent bytes; the rest stay as found.
-fn put_blocks(
-    t: &[i8],
-    steps: &[i32],
-    body: &[u8],
-    q: i64,
-    m: usize,
-    k: usize,
-    out: &mut [u8],
-)
+fn put_blocks(t: &[i8], steps: &[i32], body: &[u8], q: i64, m: usize, k: usize, out: &mut [u8])
     requires { ⌜ TableFor (natAbs q) (now t) × Coder q m (now steps) × AreBlocks (length (now steps)) (natAbs q) m k (now body) × (32 * k ≤ length (now out)) ⌝ }
     ensures { λ _. ⌜ now (out .exit) ≡ joined (map (decodedBytes (natAbs q) m (now (steps .entry))) (cut (blockSize m) k (now (body .entry)))) ++ drop (32 * k) (now (out .entry)) ⌝ }
 {

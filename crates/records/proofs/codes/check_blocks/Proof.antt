@@ -56,7 +56,7 @@ module _ (c : tie.After-check-block Inv-loop μ-loop) where
   decided v e = let a = s l .args in
       l .before .loop .inv .1 ∙ blocks-opened (a .steps) (a .q) (n l) (a .first) (a .k) (i l) (body l) (l .loop-test .taken)
       ∙ ap (λ (w : Verdict). firstRefusal (w ∷ rest l ∷ []))
-        (ap (λ (j : ℕ). checkBlock (a .steps) (a .q) (place l) (take j (drop (n l * i l) (body l)))) (sym (whole l)) ∙ sym (c .check-block .ensures) ∙ e)
+      (ap (λ (j : ℕ). checkBlock (a .steps) (a .q) (place l) (take j (drop (n l * i l) (body l)))) (sym (whole l)) ∙ sym (c .check-block .ensures) ∙ e)
 
 loop-holds : tie.Need-loop-holds Inv-loop μ-loop
 loop-holds c = let a = c .before .args in let e : a .first ≡ a .first + a .n * 0 = omega arith in (omega arith, ap₂ (checkBlocks (a .steps) (a .q) (a .n)) e (cut-whole (a .n) (a .body .now) (a .k)))

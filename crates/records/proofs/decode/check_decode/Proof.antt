@@ -11,7 +11,6 @@ use lib.IntN.{ℤ, natAbs}
 use lib.ListN.{length, drop, length-drop}
 use Rattle.refusals.specs.declared.Refusal.the-variants.{Size, Record}
 use Rattle.refusals.specs.declared.Verdict.{Verdict}
-use Rattle.refusals.specs.declared.Verdict.the-variants.{Accepted}
 use Rattle.refusals.specs.Laws.Verdicts.{first-last, first-append}
 use Rattle.refusals.specs.Limits.{blocksMost}
 use Rattle.refusals.specs.Settings.{checkSettings}
