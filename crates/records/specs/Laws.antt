@@ -1,6 +1,8 @@
 -- Proved facts of records.
 pub mod Parts
 pub mod Frames
+pub mod Vectors
 pub mod Codes
 pub mod Asked
+pub mod Encode
 pub mod Decode

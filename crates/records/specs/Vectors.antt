@@ -1,9 +1,10 @@
 -- Vectors of readings as they are lent: a slice of whole units, or an fvecs record (01, Readings and units; Bytes).
 use mathlib.Core.List.{List, [], _∷_, map}
-use Prim.Native.Nat.{ℕ, suc, _+_, _*_}
+use Prim.Native.Nat.{ℕ, suc, _+_, _*_, _/_}
 use lib.IntN.{ℤ}
 use lib.ListN.{length}
 use Rattle.integers.specs.Laws.Loops.{range}
+use Rattle.layers.specs.Digits.{cut}
 use Rattle.readings.specs.declared.Measured.{Measured}
 use Rattle.readings.specs.declared.Measured.the-variants as measured
 use Rattle.readings.specs.Taking.{measureUnits}
@@ -15,20 +16,18 @@ use Rattle.refusals.specs.Limits.{blocksMost}
 use Rattle.refusals.specs.Verdicts.{unless}
 use Rattle.records.specs.Frames.{wholeBlocks, goodRecord}
 
--- 8 to 512 readings, a multiple of 8; lent as whole units, refusal 3 where they are not
-abbrev pub checkCount : List ℤ → Verdict
-checkCount x = unless (wholeBlocks 8 1 blocksMost (length x)) (Size 0)
+-- a vector as it is lent: whether its count is allowed, and its readings
+pub record Hour : Type 0 where
+  pub frame : Verdict
+  pub readings : List Measured
 
--- lent as an fvecs record, refusal 10 where it is not so many binary32 values after its dimension
-abbrev pub checkFvecs : List ℕ → Verdict
-checkFvecs b = unless (goodRecord 4 8 1 blocksMost b) (Record 0)
+-- whole units: refusal 3 unless there are 8 to 512 of them, a multiple of 8
+abbrev pub unitsHour : List ℤ → Hour
+unitsHour x = record { frame = unless (wholeBlocks 8 1 blocksMost (length x)) (Size 0); readings = map measureUnits x }
 
--- the readings of either
-abbrev pub unitsReadings : List ℤ → List Measured
-unitsReadings x = map measureUnits x
-
-abbrev pub fvecsReadings : List ℕ → List Measured
-fvecsReadings b = map (λ (i : ℕ). measureAt b (4 + 4 * i)) (range 0 (wordAt b 0))
+-- an fvecs record: refusal 10 unless its dimension is such a count and as many binary32 values follow
+abbrev pub fvecsHour : List ℕ → Hour
+fvecsHour b = record { frame = unless (goodRecord 4 8 1 blocksMost b) (Record 0); readings = map (λ (i : ℕ). measureAt b (4 + 4 * i)) (range 0 (wordAt b 0)) }
 
 -- the first that is none is refused by its index, counted from i: 4 where it is missing, 5 where it is out of range
 abbrev pub checkReadings : ℕ → List Measured → Verdict
@@ -43,3 +42,10 @@ unitsTaken [] = []
 unitsTaken (measured.Units X ∷ r) = X ∷ unitsTaken r
 unitsTaken (measured.Missing ∷ r) = []
 unitsTaken (measured.OutOfRange ∷ r) = []
+
+-- K, the number of its blocks, and X in blocks of eight
+abbrev pub blocksOf : Hour → ℕ
+blocksOf h = length (h .readings) / 8
+
+abbrev pub blockUnits : Hour → List (List ℤ)
+blockUnits h = cut 8 (blocksOf h) (unitsTaken (h .readings))

@@ -2,5 +2,7 @@
 pub mod asked;
 pub mod codes;
 pub mod decode;
+pub mod encode;
 pub mod frames;
+pub mod report;
 pub mod vectors;

@@ -1,22 +1,24 @@
 -- Which step is used: the first that fits, and no step fits exactly where the place is past the list.
-use mathlib.Core.Path.{_≡_, refl, sym, _∙_, ap, subst}
+use mathlib.Core.Path.{_≡_, refl, sym, _∙_, ap}
 use mathlib.Core.Logic.{_↔_}
 use mathlib.Core.Bool.{Bool, true, false, cond, false≢true}
 use mathlib.Core.List.{List, [], _∷_}
 use Prim.Native.Nat.{ℕ, zero, suc, _+_, _<_, _≤_}
 use native.Mathlib.Decide.{decLe}
+use native.Mathlib.Numerals.{add-one}
 use native.Mathlib.Omega.{arith}
 use borrow.Author.Tests.{eqb-true}
 use lib.Dec.{eqb}
 use lib.IntN.{ℤ, pos, negsuc, natAbs}
-use lib.ListN.{length}
+use lib.ListN.{length, drop, drop-of-length-le}
+use lib.Seq.{drop-cons}
 use Rattle.integers.specs.Laws.Tests.{and-true}
 use Rattle.integers.specs.Vectors.{«at», zeros}
 use Rattle.layers.specs.Rule.{Lattice, Rule}
 use Rattle.blocks.specs.Trials.{nothingLeft, fits, firstFitting, codeAt, blockCode, triedRoom}
 
 -- every entry is 0 exactly where the vector is zeros
-zero-entry : (x : ℤ) → natAbs x ≡ 0 → x ≡ pos 0
+pub zero-entry : (x : ℤ) → natAbs x ≡ 0 → x ≡ pos 0
 zero-entry (pos n) h = ap pos h
 zero-entry (negsuc n) h = absurd (omega arith)
 
@@ -102,3 +104,48 @@ module _ (L : Lattice) (R : Rule L) (q m : ℕ) (X : List ℤ) where
         | yes k ↦ absurd (false≢true (sym (none-before l j (omega arith)) ∙ e))
         | no k ↦ omega arith
       ]
+
+-- a loop over the steps, after t turns: those from t on give the place and the bytes that all give
+pub record Walked (L : Lattice) (R : Rule L) (q m : ℕ) (X steps : List ℤ) (found : List ℕ) (t : ℕ) (out : List ℕ) : Type 0 where
+  pub within : t ≤ length steps
+  pub long : length out ≡ length found
+  pub place : firstFitting L R q m steps X ≡ t + firstFitting L R q m (drop t steps) X
+  pub room : triedRoom L R q m 0 steps X found ≡ triedRoom L R q m t (drop t steps) X out
+
+module _ (L : Lattice) (R : Rule L) (q m : ℕ) (X steps : List ℤ) (found : List ℕ) where
+  pub walked-none : Walked L R q m X steps found 0 found
+  walked-none = record { within = omega arith; long = refl; place = omega arith; room = refl }
+
+  module _ (t : ℕ) (out : List ℕ) (w : Walked L R q m X steps found t out) where
+    abbrev first : List ℤ → ℕ
+    first l = firstFitting L R q m l X
+
+    abbrev s : ℤ
+    s = «at» steps t
+
+    abbrev rest : List ℤ
+    rest = drop (suc t) steps
+
+    abbrev bytes : List ℕ
+    bytes = codeAt L R q m t s X
+
+    module _ (h : t < length steps) where
+      place-opened : first steps ≡ t + first (s ∷ rest)
+      place-opened = w .place ∙ ap (λ (l : List ℤ). t + first l) (drop-cons steps t (pos 0) h)
+
+      room-opened : triedRoom L R q m 0 steps X found ≡ triedRoom L R q m t (s ∷ rest) X out
+      room-opened = w .room ∙ ap (λ (l : List ℤ). triedRoom L R q m t l X out) (drop-cons steps t (pos 0) h)
+
+      -- the step in the place t fits: it is the first, and its bytes stay
+      pub walked-here : fits L R q m s X ≡ true → (t ≡ first steps) × (bytes ≡ triedRoom L R q m 0 steps X found)
+      walked-here e = let k : first (s ∷ rest) ≡ 0 = fitting-here L R q m X s rest e in (omega (arith, place-opened), sym (room-opened ∙ tried-here L R q m X t s rest out e))
+
+      -- it does not: one turn more
+      pub walked-more : fits L R q m s X ≡ false → length bytes ≡ length found → Walked L R q m X steps found (t + 1) bytes
+      walked-more e long = let k : first (s ∷ rest) ≡ suc (first rest) = fitting-later L R q m X s rest e in
+          rw (add-one t) (record { within = omega arith; long = long; place = omega (arith, place-opened); room = room-opened ∙ tried-later L R q m X t s rest out e })
+
+    -- after the last turn: no step fits, and the last one's bytes stay
+    pub walked-all : length steps ≤ t → (t ≡ first steps) × (out ≡ triedRoom L R q m 0 steps X found)
+    walked-all h = let o : drop t steps ≡ [] = drop-of-length-le steps {i = t} h in let z : t ≡ t + 0 = omega arith in
+        (z ∙ sym (w .place ∙ ap (λ (r : List ℤ). t + first r) o), sym (w .room ∙ ap (λ (r : List ℤ). triedRoom L R q m t r X out) o))

@@ -1,11 +1,11 @@
 -- Laws of vectors: entries, lengths, sums, inner products and their sizes.
 use mathlib.Core.Path.{_≡_, refl, sym, _∙_, ap, ap₂}
 use mathlib.Core.List.{List, [], _∷_, map}
-use Prim.Native.Nat.{ℕ, zero, suc, _*_, _<_, _≤_, max}
-use native.Mathlib.Nat.{mul-le-mul}
+use Prim.Native.Nat.{ℕ, zero, suc, _+_, _*_, _<_, _≤_, max}
+use native.Mathlib.Nat.{mul-le-mul, le-refl}
 use native.Mathlib.Omega.{arith}
 use lib.IntN.{ℤ, pos, negℤ, natAbs, _+ℤ_, _*ℤ_, +ℤ-idl, +ℤ-idr, +ℤ-comm, *ℤ-comm, *ℤ-zero}
-use lib.ListN.{length, getD, take, set, length-map, length-set, length-replicate}
+use lib.ListN.{length, getD, take, drop, set, length-map, length-set, length-replicate, length-take, length-drop}
 use lib.Seq.{ext-getD}
 use Rattle.integers.specs.Laws.Difference.{byD, ints, byD₂, byD₃, byD₄}
 use Rattle.integers.specs.Laws.Sizes.{abs-add, abs-mul}
@@ -182,3 +182,22 @@ module _ (n A : ℕ) (a : List ℤ) (h : Sized n A a) where
       go (x ∷ a) zero (suc i) p = omega arith
       go (x ∷ a) (suc j) zero p = omega arith
       go (x ∷ a) (suc j) (suc i) p = go a j i p
+
+-- ---- parts
+
+pub bounded-take : (B n : ℕ) (a : List ℤ) → Bounded B a → Bounded B (take n a)
+bounded-take B zero a h i = omega arith
+bounded-take B (suc n) [] h i = h i
+bounded-take B (suc n) (x ∷ a) h zero = h 0
+bounded-take B (suc n) (x ∷ a) h (suc i) = bounded-take B n a (λ j. h (suc j)) i
+
+pub bounded-drop : (B n : ℕ) (a : List ℤ) → Bounded B a → Bounded B (drop n a)
+bounded-drop B zero a h = h
+bounded-drop B (suc n) [] h = h
+bounded-drop B (suc n) (x ∷ a) h = bounded-drop B n a (λ j. h (suc j))
+
+-- the part i of k parts of n
+pub sized-part : (n k B : ℕ) (a : List ℤ) → Sized (n * k) B a → (i : ℕ) → i < k → Sized n B (take n (drop (n * i) a))
+sized-part n k B a h i l =
+    let room : n * suc i ≤ n * k = mul-le-mul (le-refl n) l in let step : n * suc i ≡ n * i + n = omega arith in
+    record { long = simp (length-take, length-drop) (omega (arith, h .long)); small = bounded-take B n (drop (n * i) a) (bounded-drop B (n * i) a (h .small)) }

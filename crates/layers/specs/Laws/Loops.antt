@@ -24,18 +24,20 @@ module _ {A : Type 0} where
       ∙ sym (append-snoc (take i b) (getD b i d) (drop (suc i) o))
       ∙ rw (add-one i) (ap (λ (l : List A). l ++ drop (suc i) o) (sym (take-suc b i d h)))
 
-  -- it writes b after what it has written, w, before the rest of o: the part from a to a + k is lent for it, and comes back
+  -- it writes b after what it has written, w, before the rest of o: the part from a to a + k is lent for it, and comes back as b
+  pub write-in : (w b o : List A) (a k : ℕ) → length w ≡ a → let x = w ++ drop a o in take a x ++ (b ++ drop k (drop a x)) ≡ (w ++ b) ++ drop (a + k) o
+  write-in w b o a k h =
+      ap₂ (λ (f g : List A). f ++ (b ++ drop k g)) (take-at w (drop a o) a h) (drop-at w (drop a o) a h)
+      ∙ ap (λ (f : List A). w ++ (b ++ f)) (drop-drop k a o)
+      ∙ sym (append-assoc w b (drop (a + k) o))
+
+  -- or with b at its front
   pub write-part : (w b o : List A) (a k : ℕ) → length w ≡ a → let x = w ++ drop a o in
       take a x ++ ((b ++ drop k (take k (drop a x))) ++ drop k (drop a x)) ≡ (w ++ b) ++ drop (a + k) o
   write-part w b o a k h =
       let x : List A = w ++ drop a o in
-      let front : take a x ≡ w = take-at w (drop a o) a h in
-      let rest : drop a x ≡ drop a o = drop-at w (drop a o) a h in
       let none : drop k (take k (drop a x)) ≡ [] = drop-of-length-le (take k (drop a x)) {i = k} (simp length-take (omega arith)) in
-      ap₂ (λ (f g : List A). f ++ ((b ++ g) ++ drop k (drop a x))) front none
-      ∙ ap₂ (λ (f g : List A). w ++ (f ++ drop k g)) (append-nil b) rest
-      ∙ ap (λ (f : List A). w ++ (b ++ f)) (drop-drop k a o)
-      ∙ sym (append-assoc w b (drop (a + k) o))
+      ap (λ (f : List A). take a x ++ (f ++ drop k (drop a x))) (ap (λ (g : List A). b ++ g) none ∙ append-nil b) ∙ write-in w b o a k h
 
 -- an entry number is made from the last digit to the first
 module _ (q : ℕ) (ds : List ℕ) where

@@ -1,4 +1,7 @@
--- `whole_blocks` is its three tests.
+-- `whole_blocks` is the rule test by test.
+use mathlib.Core.Path.{_≡_}
+use Prim.Native.Nat.{_/_, _%_}
+use native.Mathlib.Omega.{arith}
 use borrow.Author.Needs.{needs}
 use borrow.Author.Tests.{eq-eqb, ne-eqb, le-leb, lt-leb}
 use Rattle.records.specs.Frames.{wholeBlocks}
@@ -16,15 +19,15 @@ div-result c = search needs
 
 returns : tie.Need-returns
 unfolding wholeBlocks
-returns c = rw (eq-eqb _ _ (c .before .if1 .taken), lt-leb _ _ (c .if2 .taken))
+returns c = let v = c .before .before .args in rw (eq-eqb (v .n % v .size) 0 (c .before .if1 .taken), lt-leb (v .least) (v .n / v .size) (c .if2 .taken))
 
 returns-2 : tie.Need-returns-2
 unfolding wholeBlocks
-returns-2 c = rw (eq-eqb _ _ (c .before .if1 .taken), le-leb _ _ (c .if2 .left))
+returns-2 c = let v = c .before .before .args in rw (eq-eqb (v .n % v .size) 0 (c .before .if1 .taken), le-leb (v .least) (v .n / v .size) (omega (arith, c .if2 .left)))
 
 returns-3 : tie.Need-returns-3
 unfolding wholeBlocks
-returns-3 c = rw (ne-eqb _ _ (c .if1 .left))
+returns-3 c = let v = c .before .args in rw (ne-eqb (v .n % v .size) 0 (c .if1 .left))
 
 pub whole-blocks-spec : {M : Type 1} → statement M
 whole-blocks-spec = tie.close (tie.spec rem-if1 div-if2 div-result returns returns-2 returns-3)

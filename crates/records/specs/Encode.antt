@@ -1,0 +1,49 @@
+-- From readings to codes (01, Layers and steps; Bytes).
+use mathlib.Core.Bool.{cond}
+use mathlib.Core.List.{List, [], _∷_, _++_, map}
+use Prim.Native.Nat.{ℕ, suc, _*_}
+use lib.Dec.{leb, ltb}
+use lib.IntN.{ℤ, pos, natAbs}
+use lib.ListN.{length}
+use Rattle.blocks.specs.Trials.{firstFitting, blockCode}
+use Rattle.layers.specs.Digits.{joined}
+use Rattle.layers.specs.E8.{e8, nearest}
+use Rattle.readings.specs.Words.{bytesOf}
+use Rattle.refusals.specs.declared.Answer.{Answer}
+use Rattle.refusals.specs.declared.settings.Settings.{Settings}
+use Rattle.refusals.specs.declared.Refusal.the-variants.{Size, Overload}
+use Rattle.refusals.specs.declared.Verdict.{Verdict}
+use Rattle.refusals.specs.declared.Verdict.the-variants.{Accepted, Refused}
+use Rattle.refusals.specs.Answers.{valued, written}
+use Rattle.refusals.specs.Settings.{checkSettings}
+use Rattle.refusals.specs.Steps.{checkSteps}
+use Rattle.refusals.specs.Verdicts.{unless, firstRefusal}
+use Rattle.records.specs.Codes.{blockSize, codeLength}
+use Rattle.records.specs.Vectors.{Hour, checkReadings, blocksOf, blockUnits}
+
+-- a block that every listed step overloads is refused by its number, counted from k
+abbrev pub checkFits : ℕ → ℕ → List ℤ → ℕ → List (List ℤ) → Verdict
+checkFits q m steps k [] = Accepted
+checkFits q m steps k (X ∷ l) = cond (ltb (firstFitting e8 nearest q m steps X) (length steps)) (checkFits q m steps (suc k) l) (Refused (Overload k))
+
+-- the bytes of the blocks, each at the first step that fits it
+abbrev pub codeBytes : ℕ → ℕ → List ℤ → List (List ℤ) → List ℕ
+codeBytes q m steps l = joined (map (blockCode e8 nearest q m steps) l)
+
+-- the bvecs record of K blocks: its dimension, then their bytes
+abbrev pub codeRecord : ℕ → ℕ → List ℤ → ℕ → List (List ℤ) → List ℕ
+codeRecord q m steps K l = bytesOf (blockSize m * K) ++ codeBytes q m steps l
+
+-- settings; steps; the vector's count; room for 4 + K (8 M + 1) bytes; its readings; last whether each block has a step that fits
+unfoldable pub checkEncode : Settings → List ℤ → Hour → ℕ → Verdict
+checkEncode c steps h room = let m = natAbs (c .m) in
+    firstRefusal (checkSettings c ∷ checkSteps 0 steps ∷ h .frame ∷ unless (leb (codeLength m (blocksOf h)) room) (Size 1)
+    ∷ checkReadings 0 (h .readings) ∷ checkFits (natAbs (c .q)) m steps 0 (blockUnits h) ∷ [])
+
+-- the whole answer: how many bytes were written
+unfoldable pub encoded : Settings → List ℤ → Hour → ℕ → Answer
+encoded c steps h room = valued (checkEncode c steps h room) (pos (codeLength (natAbs (c .m)) (blocksOf h)))
+
+-- the room afterwards
+unfoldable pub encodedRoom : Settings → List ℤ → Hour → List ℕ → List ℕ
+encodedRoom c steps h out = let m = natAbs (c .m) in written (checkEncode c steps h (length out)) (codeRecord (natAbs (c .q)) m steps (blocksOf h) (blockUnits h)) out
