@@ -3,6 +3,7 @@ pub mod Parts
 pub mod Frames
 pub mod Vectors
 pub mod Codes
+pub mod Least
 pub mod Asked
 pub mod Encode
 pub mod Decode
