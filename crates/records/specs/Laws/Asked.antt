@@ -1,0 +1,83 @@
+-- What it says that settings, a step list and a code record were taken and not refused.
+use mathlib.Core.Path.{_≡_, refl, sym, _∙_, subst}
+use mathlib.Core.Bool.{Bool, true, false, cond}
+use mathlib.Core.List.{List, [], _∷_}
+use Prim.Native.Nat.{ℕ, zero, suc, _+_, _*_, _<_, _≤_}
+use native.Mathlib.Omega.{arith}
+use borrow.Author.Tests.{ltb-true}
+use lib.Dec.{ltb}
+use lib.IntN.{ℤ, natAbs}
+use lib.ListN.{length, getD, take, drop, length-take, length-drop}
+use lib.Seq.{drop-drop}
+use Rattle.refusals.specs.declared.settings.Settings.{Settings}
+use Rattle.refusals.specs.declared.Refusal.the-variants.{Byte, Steps, Record}
+use Rattle.refusals.specs.declared.Verdict.{Verdict}
+use Rattle.refusals.specs.declared.Verdict.the-variants.{Accepted, Refused}
+use Rattle.refusals.specs.Laws.Allowed.{Allowed, steps-allowed}
+use Rattle.refusals.specs.Laws.Verdicts.{refused-never, unless-accepted, first-accepted, first-last}
+use Rattle.refusals.specs.Settings.{checkSettings}
+use Rattle.refusals.specs.Steps.{checkSteps}
+use Rattle.refusals.specs.Verdicts.{firstRefusal}
+use Rattle.layers.specs.Answers.{checkBelow}
+use Rattle.layers.specs.Digits.{Below, cut}
+use Rattle.layers.specs.Laws.Asked.{checked-allowed, allowed-base, below-taken}
+use Rattle.records.specs.Codes.{Coder, IsBlock, AreBlocks, blockSize, blocksIn, codeBlocks, checkFrame, checkBlock, checkBlocks}
+use Rattle.records.specs.Laws.Codes.{block-opened}
+use Rattle.records.specs.Laws.Frames.{Framed, record-framed}
+
+-- settings and a step list
+pub record CoderTaken (c : Settings) (steps : List ℤ) : Type 0 where
+  pub allowed : Allowed (c .q) (c .m)
+  pub coder : Coder (c .q) (natAbs (c .m)) steps
+
+pub coder-taken : (c : Settings) (place : ℕ) (steps : List ℤ) → checkSettings c ≡ Accepted → checkSteps place steps ≡ Accepted → CoderTaken c steps
+coder-taken c place steps e f = let a = checked-allowed c e in
+    record {
+      allowed = a;
+      coder = record { base = allowed-base (c .q) (c .m) a; few = a .m-most; power = a .power; listed = steps-allowed steps (unless-accepted _ (Steps place) f) };
+    }
+
+-- both checked as one
+pub coder-accepted : (c : Settings) (steps : List ℤ) → firstRefusal (checkSettings c ∷ checkSteps 0 steps ∷ []) ≡ Accepted → CoderTaken c steps
+coder-accepted c steps e = let s = first-accepted (checkSettings c) (checkSteps 0 steps ∷ []) e in coder-taken c 0 steps (s .0) (first-accepted (checkSteps 0 steps) [] (s .1) .0)
+
+module _ (steps q : ℕ) where
+  block-taken : (m i : ℕ) (b : List ℕ) → length b ≡ blockSize m → checkBlock steps q i b ≡ Accepted → IsBlock steps q m b
+  block-taken m i b h e = let k = go (ltb (getD b 0 0) steps) (ltb-true (getD b 0 0) steps) (sym (block-opened steps q i b (omega arith)) ∙ e) in
+      record { long = h; first = k .0; code = record { long = simp length-drop (omega arith); below = k .1 } }
+    where
+      go : (t : Bool) → (t ≡ true → getD b 0 0 < steps) → cond t (checkBelow q (suc i) (drop 1 b)) (Refused (Byte i)) ≡ Accepted → (getD b 0 0 < steps) × Below q (drop 1 b)
+      go true f e = (f refl, below-taken q (suc i) (drop 1 b) e)
+      go false f e = refused-never e
+
+  module _ (m : ℕ) where
+    abbrev n : ℕ
+    n = blockSize m
+
+    each-taken : (k i : ℕ) (f : List ℕ) → n * k ≤ length f → checkBlocks steps q n i (cut n k f) ≡ Accepted → (j : ℕ) → j < k → IsBlock steps q m (take n (drop (n * j) f))
+    each-taken zero i f h e = λ j l. absurd (omega arith)
+    each-taken (suc k) i f h e =
+        let rest : Verdict = checkBlocks steps q n (i + n) (cut n k (drop n f)) in let t = first-accepted (checkBlock steps q i (take n f)) (rest ∷ []) e in
+        go (block-taken m i (take n f) (simp length-take (omega arith)) (t .0)) (each-taken k (i + n) (drop n f) (simp length-drop (omega arith)) (sym (first-last rest) ∙ t .1))
+      where
+        go : IsBlock steps q m (take n f) → ((j : ℕ) → j < k → IsBlock steps q m (take n (drop (n * j) (drop n f)))) → (j : ℕ) → j < suc k → IsBlock steps q m (take n (drop (n * j) f))
+        go here later zero l = let z : 0 ≡ n * 0 = omega arith in subst (λ (a : ℕ). IsBlock steps q m (take n (drop a f))) z here
+        go here later (suc j) l = let s : n + n * j ≡ n * suc j = omega arith in
+            subst (λ (a : ℕ). IsBlock steps q m (take n (drop a f))) s (subst (λ (g : List ℕ). IsBlock steps q m (take n g)) (drop-drop (n * j) n f) (later j (omega arith)))
+
+    -- k blocks
+    pub blocks-taken : (k i : ℕ) (f : List ℕ) → n * k ≤ length f → checkBlocks steps q n i (cut n k f) ≡ Accepted → AreBlocks steps q m k f
+    blocks-taken k i f h e = record { long = h; each = each-taken k i f h e }
+
+-- a code record
+pub record RecordTaken (steps q m least most : ℕ) (b : List ℕ) : Type 0 where
+  pub frame : Framed 1 (blockSize m) least most b
+  pub blocks : AreBlocks steps q m (blocksIn m b) (drop 4 b)
+
+-- the blocks of a good frame are there
+pub frame-holds : (m least most : ℕ) (b : List ℕ) → Framed 1 (blockSize m) least most b → blockSize m * blocksIn m b ≤ length (drop 4 b)
+frame-holds m least most b h = simp length-drop (omega (arith, h .dimension, h .complete))
+
+pub record-taken : (steps q m least most place i : ℕ) (b : List ℕ) → checkFrame m least most place b ≡ Accepted → checkBlocks steps q (blockSize m) i (codeBlocks m b) ≡ Accepted → RecordTaken steps q m least most b
+record-taken steps q m least most place i b e f = let h = record-framed 1 (blockSize m) least most b (unless-accepted _ (Record place) e) in
+    record { frame = h; blocks = blocks-taken steps q m (blocksIn m b) i (drop 4 b) (frame-holds m least most b h) f }
