@@ -1,15 +1,20 @@
 -- Code records: which are good (01, Bytes; When the unit says no).
+use mathlib.Core.Path.{_≡_}
 use mathlib.Core.Bool.{cond}
 use mathlib.Core.List.{List, [], _∷_}
-use Prim.Native.Nat.{ℕ, suc, _+_, _*_, _/_}
+use Prim.Native.Nat.{ℕ, suc, _+_, _*_, _/_, _^_, _<_, _≤_}
 use lib.Dec.{ltb}
-use lib.ListN.{drop}
+use lib.IntN.{ℤ, natAbs}
+use lib.ListN.{length, getD, take, drop}
 use Rattle.layers.specs.Answers.{checkBelow}
-use Rattle.layers.specs.Digits.{cut}
+use Rattle.layers.specs.Digits.{IsCode, cut}
+use Rattle.layers.specs.Sizes.{Base}
 use Rattle.readings.specs.Words.{wordAt}
 use Rattle.refusals.specs.declared.Refusal.the-variants.{Byte, Record}
 use Rattle.refusals.specs.declared.Verdict.{Verdict}
 use Rattle.refusals.specs.declared.Verdict.the-variants.{Accepted, Refused}
+use Rattle.refusals.specs.Laws.Allowed.{AllowedSteps}
+use Rattle.refusals.specs.Limits.{mMost, powerMost}
 use Rattle.refusals.specs.Verdicts.{unless, firstRefusal}
 use Rattle.records.specs.Frames.{goodRecord}
 
@@ -41,3 +46,23 @@ checkBlock steps q i (t ∷ ds) = cond (ltb t steps) (checkBelow q (suc i) ds) (
 abbrev pub checkBlocks : ℕ → ℕ → ℕ → ℕ → List (List ℕ) → Verdict
 checkBlocks steps q n i [] = Accepted
 checkBlocks steps q n i (b ∷ l) = firstRefusal (checkBlock steps q i b ∷ checkBlocks steps q n (i + n) l ∷ [])
+
+-- ---- what the code relies on, once checked
+
+-- q, m and a step list within their limits
+pub record Coder (q : ℤ) (m : ℕ) (steps : List ℤ) : Type 0 where
+  pub base : Base q
+  pub few : m ≤ mMost
+  pub power : natAbs q ^ m ≤ powerMost
+  pub listed : AllowedSteps steps
+
+-- a block: T below the number of steps, then 8 m digits below q
+pub record IsBlock (steps q m : ℕ) (b : List ℕ) : Type 0 where
+  pub long : length b ≡ blockSize m
+  pub first : getD b 0 0 < steps
+  pub code : IsCode 8 q m (drop 1 b)
+
+-- k of them in a row
+pub record AreBlocks (steps q m k : ℕ) (f : List ℕ) : Type 0 where
+  pub long : blockSize m * k ≤ length f
+  pub each : (i : ℕ) → i < k → IsBlock steps q m (take (blockSize m) (drop (blockSize m * i) f))

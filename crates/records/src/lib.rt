@@ -1,4 +1,5 @@
 // Records of readings and of codes: encode, decode, report (01, Bytes).
+pub mod asked;
 pub mod codes;
 mod encode;
 pub mod frames;

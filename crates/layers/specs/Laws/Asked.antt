@@ -20,7 +20,7 @@ use Rattle.refusals.specs.Laws.Allowed.{Allowed, settings-allowed}
 use Rattle.refusals.specs.Laws.Verdicts.{refused-never, unless-accepted, first-accepted}
 use Rattle.refusals.specs.Limits.{pointMost}
 use Rattle.refusals.specs.Settings.{checkSettings}
-use Rattle.refusals.specs.Verdicts.{unless, firstRefusal}
+use Rattle.refusals.specs.Verdicts.{unless}
 use Rattle.lattice.specs.Doubled.{isPoint}
 use Rattle.layers.specs.Answers.{checkPoint, checkBelow, checkDigits}
 use Rattle.layers.specs.Digits.{Below, IsCode}
@@ -32,11 +32,6 @@ use Rattle.layers.specs.Sizes.{longPower, Base}
 -- the settings of an accepted check
 pub checked-allowed : (c : Settings) → checkSettings c ≡ Accepted → Allowed (c .q) (c .m)
 checked-allowed c e = settings-allowed (c .q) (c .m) (unless-accepted _ BadSettings e)
-
--- the last check of a list is its verdict
-pub first-last : (v : Verdict) → firstRefusal (v ∷ []) ≡ v
-first-last Accepted = refl
-first-last (Refused r) = refl
 
 -- settings that are allowed are a base that the code takes
 pub allowed-base : (q m : ℤ) → Allowed q m → Base q
@@ -62,7 +57,8 @@ point-taken c e room k =
       fits = leb-true (8 * natAbs (c .m)) room (unless-accepted _ (Size 1) (r .0));
     }
 
-below-taken : (q i : ℕ) (ds : List ℕ) → checkBelow q i ds ≡ Accepted → Below q ds
+-- digits of an accepted check
+pub below-taken : (q i : ℕ) (ds : List ℕ) → checkBelow q i ds ≡ Accepted → Below q ds
 below-taken q i [] k = tt
 below-taken q i (d ∷ ds) k = go (ltb d q) (λ e. leb-true (suc d) q e) (λ h. below-taken q (suc i) ds h) k
   where

@@ -1,7 +1,7 @@
 -- Laws of verdicts and of the order of checks.
 use mathlib.Core.Path.{_≡_, refl}
 use mathlib.Core.Bool.{Bool, true, false}
-use mathlib.Core.List.{List, _∷_}
+use mathlib.Core.List.{List, [], _∷_, _++_}
 use Prim.Native.Nat.{ℕ}
 use native.Mathlib.Omega.{arith}
 use Rattle.refusals.specs.declared.Refusal.{Refusal}
@@ -22,3 +22,14 @@ unless-accepted false r e = refused-never e
 pub first-accepted : (v : Verdict) (l : List Verdict) → firstRefusal (v ∷ l) ≡ Accepted → (v ≡ Accepted) × (firstRefusal l ≡ Accepted)
 first-accepted Accepted l e = (refl, e)
 first-accepted (Refused r) l e = refused-never e
+
+-- the last check of a list is its verdict
+pub first-last : (v : Verdict) → firstRefusal (v ∷ []) ≡ v
+first-last Accepted = refl
+first-last (Refused r) = refl
+
+-- checks that stand first may be made together, as one
+pub first-append : (a b : List Verdict) → firstRefusal (a ++ b) ≡ firstRefusal (firstRefusal a ∷ b)
+first-append [] b = refl
+first-append (Accepted ∷ a) b = first-append a b
+first-append (Refused r ∷ a) b = refl

@@ -8,9 +8,10 @@ use lib.IntN.{natAbs}
 use lib.ListN.{length}
 use Rattle.refusals.specs.declared.Verdict.the-variants.{Accepted}
 use Rattle.refusals.specs.Laws.Allowed.{Allowed}
+use Rattle.refusals.specs.Laws.Verdicts.{first-last}
 use Rattle.refusals.specs.Settings.{checkSettings}
 use Rattle.layers.specs.Answers.{checkBelow, checkDigits}
-use Rattle.layers.specs.Laws.Asked.{checked-allowed, first-last}
+use Rattle.layers.specs.Laws.Asked.{checked-allowed}
 use Rattle.layers.proofs.asked.check_digits.Statement.{statement}
 use Rattle.layers.proofs.asked.check_digits.Tie as tie
 
