@@ -1,0 +1,94 @@
+-- What the report's code relies on: eight readings that were all taken are a block, and its reports are exact.
+use mathlib.Core.Path.{_≡_, refl, sym, _∙_, ap, subst}
+use mathlib.Core.List.{List, [], _∷_, map}
+use Prim.Native.Nat.{ℕ, zero, suc, _+_, _*_, _^_, _<_, _≤_}
+use native.Mathlib.Omega.{arith}
+use lib.IntN.{ℤ, pos, natAbs, _*ℤ_, _-ℤ_}
+use lib.ListN.{length, getD, drop}
+use lib.Signed.{_<ℤ_}
+use Rattle.integers.specs.Laws.Loops.{range}
+use Rattle.integers.specs.Laws.Sums.{at-scale, length-scaleV}
+use Rattle.integers.specs.Vectors.{«at», scaleV, Bounded}
+use Rattle.blocks.specs.Limits.{Block, UsedSteps}
+use Rattle.blocks.specs.Laws.Sizes.{divisor-positive}
+use Rattle.blocks.specs.Laws.Theorems.{block-digits, block-decodes}
+use Rattle.blocks.specs.Trials.{pointAt, firstFitting, blockCode}
+use Rattle.layers.specs.Digits.{IsCode}
+use Rattle.layers.specs.E8.{e8, nearest}
+use Rattle.layers.specs.Laws.E8.{decode-in8, decode-times8}
+use Rattle.readings.specs.declared.Measured.{Measured}
+use Rattle.readings.specs.declared.Measured.the-variants as measured
+use Rattle.readings.specs.Laws.Taking.{units-in-range, units-same}
+use Rattle.readings.specs.Taking.{unitsMost, measureUnits, InRange}
+use Rattle.refusals.specs.declared.Verdict.the-variants.{Accepted}
+use Rattle.refusals.specs.Laws.Allowed.{AllowedSteps}
+use Rattle.refusals.specs.Laws.Verdicts.{refused-never}
+use Rattle.refusals.specs.Limits.{powerMost}
+use Rattle.records.specs.Decode.{stepOf, wholePoint}
+use Rattle.records.specs.Report.{Reportables}
+use Rattle.records.specs.Vectors.{checkReadings}
+
+-- whole units that were all taken are in range
+units-bounded : (i : ℕ) (x : List ℤ) → checkReadings i (map measureUnits x) ≡ Accepted → Bounded unitsMost x
+units-bounded i [] e = λ j. omega arith
+units-bounded i (z ∷ x) e = go (measureUnits z) refl e (units-bounded (suc i) x)
+  where
+    go : (r : Measured) → measureUnits z ≡ r → checkReadings i (r ∷ map measureUnits x) ≡ Accepted → (checkReadings (suc i) (map measureUnits x) ≡ Accepted → Bounded unitsMost x)
+        → (j : ℕ) → natAbs («at» (z ∷ x) j) ≤ unitsMost
+    go (measured.Units Y) m e rest zero = subst (λ (y : ℤ). natAbs y ≤ unitsMost) (sym (units-same z Y m)) (subst InRange m (units-in-range z))
+    go (measured.Units Y) m e rest (suc j) = rest e j
+    go measured.Missing m e rest j = refused-never e
+    go measured.OutOfRange m e rest j = refused-never e
+
+-- eight of them are a block
+pub units-block : (x : List ℤ) → length x ≡ 8 → checkReadings 0 (map measureUnits x) ≡ Accepted → Block x
+units-block x h e = record { long = h; small = units-bounded 0 x e }
+
+-- a checked list is one that blocks are coded with
+pub used-steps : (l : List ℤ) → AllowedSteps l → UsedSteps l
+used-steps l h = record { few = omega (arith, h .few); each = λ i k. record { least = h .each i k .least; most = omega (arith, h .each i k .most) } }
+
+-- a block that a listed step fits
+module _ (q m : ℕ) (two : 2 ≤ q) (power : q ^ m ≤ powerMost) (steps : List ℤ) (listed : AllowedSteps steps) (X : List ℤ) (block : Block X) (h : firstFitting e8 nearest q m steps X < length steps) where
+  abbrev b : List ℕ
+  b = blockCode e8 nearest q m steps X
+
+  abbrev s : ℤ
+  s = stepOf steps b
+
+  abbrev e : List ℤ
+  e = wholePoint q m b
+
+  q> : 0 < q
+  q> = omega arith
+
+  positive : (i : ℕ) → i < length steps → pos 0 <ℤ «at» steps i
+  positive i k = divisor-positive («at» steps i) (used-steps steps listed .each i k)
+
+  -- its bytes are m layers of digits
+  pub block-code : IsCode 8 q m (drop 1 b)
+  block-code = block-digits e8 nearest X (block .long) q m q> steps positive h
+
+  -- s·e is within 2s of 2X, since e is the point that X rounds to at s
+  close : (i : ℕ) → i < 8 → natAbs (pos 2 *ℤ «at» X i -ℤ s *ℤ «at» e i) ≤ 2 * natAbs s
+  close i k =
+      let d : List ℤ = scaleV (pos 2) X in
+      rw (block-decodes e8 nearest X (block .long) q m q> steps positive h .1) (rw (sym (at-scale (pos 2) X i)) (nearest .close s (positive _ h) d (length-scaleV (pos 2) X ∙ block .long) i k))
+
+  -- and its reports are exact
+  pub block-reportable : Reportables X s e
+  block-reportable = record {
+    readings-long = block .long;
+    point-long = decode-in8 q m q> _ block-code .long;
+    each = λ i k. record {
+      taken = block .small i;
+      decoded = decode-times8 q m q> _ block-code two power s (listed .each _ h .most) i;
+      difference = omega (arith, close i k, listed .each _ h .most);
+    };
+  }
+
+-- the entry j of a range
+pub range-at : (i n j d : ℕ) → j < n → getD (range i n) j d ≡ i + j
+range-at i zero j d h = absurd (omega arith)
+range-at i (suc n) zero d h = omega arith
+range-at i (suc n) (suc j) d h = let e : suc i + j ≡ i + suc j = omega arith in range-at (suc i) n j d (omega arith) ∙ e
