@@ -49,7 +49,11 @@ reported (Refused r) l = record { verdict = Refused r; readings = noReadings }
 unfoldable pub report : Settings → List ℤ → List ℤ → ReportAnswer
 report c steps x = reported (checkReport c steps x) (blockReport (natAbs (c .q)) (natAbs (c .m)) steps x)
 
--- ---- what the code relies on, once checked
+-- ---- for the code
+
+-- what is refused before a step is tried
+abbrev pub checkGiven : Settings → List ℤ → List ℤ → Verdict
+checkGiven c steps x = firstRefusal (checkSettings c ∷ checkSteps 0 steps ∷ unless (eqb (length x) 8) (Size 0) ∷ checkReadings 0 (unitsHour x .readings) ∷ [])
 
 -- eight readings and eight coordinates, whose reports at the step s are exact
 pub record Reportables (X : List ℤ) (s : ℤ) (e : List ℤ) : Type 0 where

@@ -1,19 +1,12 @@
 // The report on one block: each of its eight readings as taken, as decoded, and the difference (01, Layers and steps).
 ghost use mathlib.Core.Path.{_≡_};
 ghost use mathlib.Core.List.{[], _∷_};
-ghost use lib.Dec.{eqb};
 ghost use lib.IntN.{natAbs};
-ghost use lib.ListN.{length};
 ghost use Rattle.blocks.specs.Limits.{Block};
-ghost use Rattle.refusals.specs.declared.Refusal.the-variants.{Size};
 ghost use Rattle.refusals.specs.declared.Verdict.the-variants.{Refused};
-ghost use Rattle.refusals.specs.Settings.{checkSettings};
-ghost use Rattle.refusals.specs.Steps.{checkSteps};
-ghost use Rattle.refusals.specs.Verdicts.{unless, firstRefusal};
 ghost use Rattle.records.specs.Codes.{Coder};
 ghost use Rattle.records.specs.Encode.{checkFits};
-ghost use Rattle.records.specs.Report.{Reportables, readingReports, blockReport, noReadings, reported, report};
-ghost use Rattle.records.specs.Vectors.{unitsHour, checkReadings};
+ghost use Rattle.records.specs.Report.{checkGiven, readingReports, blockReport, noReadings, reported, report, Reportables};
 use crate::asked;
 use crate::codes;
 use crate::vectors;
@@ -54,7 +47,7 @@ fn refused_report(r: Refusal) -> ReportAnswer
 
 // What is refused before a step is tried: 1 and 2, 3 unless there are eight readings, 4 or 5 at the first that is none.
 fn check_given(s: Settings, steps: &[i32], x: &[i32]) -> Verdict
-    ensures { λ r. ⌜ r ≡ firstRefusal (checkSettings s ∷ checkSteps 0 (now (steps .entry)) ∷ unless (eqb (length (now (x .entry))) 8) (Size 0) ∷ checkReadings 0 (unitsHour (now (x .entry)) .readings) ∷ []) ⌝ }
+    ensures { λ r. ⌜ r ≡ checkGiven s (now (steps .entry)) (now (x .entry)) ⌝ }
 {
     match asked::check_coder(s, steps) {
         Verdict::Refused(r) => Verdict::Refused(r),

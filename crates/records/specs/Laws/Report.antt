@@ -1,8 +1,10 @@
--- What the report's code relies on: eight readings that were all taken are a block, and its reports are exact.
+-- What the report's code relies on: what was given is a block and its coder, and the reports on it are exact.
 use mathlib.Core.Path.{_≡_, refl, sym, _∙_, ap, subst}
 use mathlib.Core.List.{List, [], _∷_, map}
 use Prim.Native.Nat.{ℕ, zero, suc, _+_, _*_, _^_, _<_, _≤_}
 use native.Mathlib.Omega.{arith}
+use borrow.Author.Tests.{eqb-true}
+use lib.Dec.{eqb}
 use lib.IntN.{ℤ, pos, natAbs, _*ℤ_, _-ℤ_}
 use lib.ListN.{length, getD, drop}
 use lib.Signed.{_<ℤ_}
@@ -15,18 +17,28 @@ use Rattle.blocks.specs.Laws.Theorems.{block-digits, block-decodes}
 use Rattle.blocks.specs.Trials.{pointAt, firstFitting, blockCode}
 use Rattle.layers.specs.Digits.{IsCode}
 use Rattle.layers.specs.E8.{e8, nearest}
+use Rattle.layers.specs.Laws.Asked.{checked-allowed, allowed-base}
 use Rattle.layers.specs.Laws.E8.{decode-in8, decode-times8}
 use Rattle.readings.specs.declared.Measured.{Measured}
 use Rattle.readings.specs.declared.Measured.the-variants as measured
 use Rattle.readings.specs.Laws.Taking.{units-in-range, units-same}
 use Rattle.readings.specs.Taking.{unitsMost, measureUnits, InRange}
-use Rattle.refusals.specs.declared.Verdict.the-variants.{Accepted}
-use Rattle.refusals.specs.Laws.Allowed.{AllowedSteps}
-use Rattle.refusals.specs.Laws.Verdicts.{refused-never}
+use Rattle.refusals.specs.declared.settings.Settings.{Settings}
+use Rattle.refusals.specs.declared.Refusal.{Refusal}
+use Rattle.refusals.specs.declared.Refusal.the-variants.{Steps, Size}
+use Rattle.refusals.specs.declared.Verdict.{Verdict}
+use Rattle.refusals.specs.declared.Verdict.the-variants.{Accepted, Refused}
+use Rattle.refusals.specs.Laws.Allowed.{Allowed, AllowedSteps, steps-allowed}
+use Rattle.refusals.specs.Laws.Verdicts.{refused-never, unless-accepted, first-accepted, first-last, first-append}
 use Rattle.refusals.specs.Limits.{powerMost}
+use Rattle.refusals.specs.Settings.{checkSettings}
+use Rattle.refusals.specs.Steps.{checkSteps}
+use Rattle.refusals.specs.Verdicts.{unless, firstRefusal}
+use Rattle.records.specs.Codes.{Coder}
 use Rattle.records.specs.Decode.{stepOf, wholePoint}
-use Rattle.records.specs.Report.{Reportables}
-use Rattle.records.specs.Vectors.{checkReadings}
+use Rattle.records.specs.Encode.{checkFits}
+use Rattle.records.specs.Report.{checkReport, checkGiven, Reportables}
+use Rattle.records.specs.Vectors.{unitsHour, checkReadings}
 
 -- whole units that were all taken are in range
 units-bounded : (i : ℕ) (x : List ℤ) → checkReadings i (map measureUnits x) ≡ Accepted → Bounded unitsMost x
@@ -40,9 +52,42 @@ units-bounded i (z ∷ x) e = go (measureUnits z) refl e (units-bounded (suc i) 
     go measured.Missing m e rest j = refused-never e
     go measured.OutOfRange m e rest j = refused-never e
 
--- eight of them are a block
-pub units-block : (x : List ℤ) → length x ≡ 8 → checkReadings 0 (map measureUnits x) ≡ Accepted → Block x
-units-block x h e = record { long = h; small = units-bounded 0 x e }
+-- what was given and not refused: allowed settings, steps to code with, and a block
+pub record Given (c : Settings) (steps x : List ℤ) : Type 0 where
+  pub allowed : Allowed (c .q) (c .m)
+  pub coder : Coder (c .q) (natAbs (c .m)) steps
+  pub block : Block x
+
+module _ (c : Settings) (steps x : List ℤ) where
+  abbrev eight : Verdict
+  eight = unless (eqb (length x) 8) (Size 0)
+
+  abbrev taken : Verdict
+  taken = checkReadings 0 (unitsHour x .readings)
+
+  abbrev fitting : Verdict
+  fitting = checkFits (natAbs (c .q)) (natAbs (c .m)) steps 0 (x ∷ [])
+
+  pub given-taken : checkGiven c steps x ≡ Accepted → Given c steps x
+  given-taken e =
+      let s = first-accepted (checkSettings c) (checkSteps 0 steps ∷ eight ∷ taken ∷ []) e in let l = first-accepted (checkSteps 0 steps) (eight ∷ taken ∷ []) (s .1) in
+      let n = first-accepted eight (taken ∷ []) (l .1) in let r = first-accepted taken [] (n .1) in let a = checked-allowed c (s .0) in
+      record {
+        allowed = a;
+        coder = record { base = allowed-base (c .q) (c .m) a; few = a .m-most; power = a .power; listed = steps-allowed steps (unless-accepted _ (Steps 0) (l .0)) };
+        block = record { long = eqb-true (length x) 8 (unless-accepted _ (Size 0) (n .0)); small = units-bounded 0 x (r .0) };
+      }
+
+  report-opened : (v : Verdict) → checkGiven c steps x ≡ v → checkReport c steps x ≡ firstRefusal (v ∷ fitting ∷ [])
+  unfolding checkReport
+  report-opened v e = first-append (checkSettings c ∷ checkSteps 0 steps ∷ eight ∷ taken ∷ []) (fitting ∷ []) ∙ ap (λ (w : Verdict). firstRefusal (w ∷ fitting ∷ [])) e
+
+  -- what was given is refused, or whether a step fits is the last check
+  pub report-refused : (r : Refusal) → checkGiven c steps x ≡ Refused r → checkReport c steps x ≡ Refused r
+  report-refused r e = report-opened (Refused r) e
+
+  pub report-last : checkGiven c steps x ≡ Accepted → checkReport c steps x ≡ fitting
+  report-last e = report-opened Accepted e ∙ first-last fitting
 
 -- a checked list is one that blocks are coded with
 pub used-steps : (l : List ℤ) → AllowedSteps l → UsedSteps l
