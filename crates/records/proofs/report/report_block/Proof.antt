@@ -11,13 +11,11 @@ use lib.Seq.{take-at}
 use mir.Syntax.{w32, w64}
 use mir.Val.{SFits, toZ, ofZ}
 use mir.Facts.{toZ-ofZ, sfits-widen}
-use Rattle.integers.specs.Laws.Linear.{Z, abs-parts}
 use Rattle.integers.specs.Vectors.{«at»}
 use Rattle.blocks.specs.Laws.Fitting.{tried-code}
 use Rattle.blocks.specs.Trials.{firstFitting, blockCode, triedRoom}
 use Rattle.layers.specs.Digits.{IsCode}
 use Rattle.layers.specs.E8.{e8, nearest, decode8}
-use Rattle.readings.specs.declared.Reading.{Reading}
 use Rattle.refusals.specs.declared.Verdict.{Verdict}
 use Rattle.refusals.specs.declared.Verdict.the-variants.{Accepted}
 use Rattle.records.specs.Decode.{stepOf, wholePoint}
@@ -55,16 +53,12 @@ module _ (c : tie.Start) where
   q-is : natAbs (toZ w64 (ofZ w64 (c .args .q))) ≡ q
   q-is = ap natAbs (toZ-ofZ (c .fits .q))
 
-  two : 2 ≤ q
-  two = omega (arith, Z, abs-parts (c .args .q), c .pre .1 .base .least)
-
 block-size-requires : tie.Need-block-size-requires
 block-size-requires c κs = omega (arith, c .pre .1 .few)
 
 -- how many bytes are lent
-module _ (c : tie.After-block-size) where
-  size-is : c .block-size .result ≡ 8 * m (c .before) + 1
-  size-is = c .block-size .ensures
+size-is : (c : tie.After-block-size) → c .block-size .result ≡ 8 * m (c .before) + 1
+size-is c = c .block-size .ensures
 
 sub-code-block : tie.Need-sub-code-block
 sub-code-block c = search needs
@@ -97,10 +91,9 @@ module _ (c : tie.After-code-block) where
   code = blockCode e8 nearest (q s) (m s) (steps s) (x s)
 
   -- where a step fits they are the block's
-  module _ (h : firstFitting e8 nearest (q s) (m s) (steps s) (x s) < length (steps s)) where
-    part-is : part ≡ code
-    part-is = let lent = take (size - 0) (drop 0 fresh) in
-        c .code-block .ensures .1 ∙ ap (λ (q : ℕ). triedRoom e8 nearest q (m s) 0 (steps s) (x s) lent) (q-is s) ∙ tried-code e8 nearest (q s) (m s) (x s) (steps s) lent h
+  part-is : firstFitting e8 nearest (q s) (m s) (steps s) (x s) < length (steps s) → part ≡ code
+  part-is h = let lent = take (size - 0) (drop 0 fresh) in
+      c .code-block .ensures .1 ∙ ap (λ (q : ℕ). triedRoom e8 nearest q (m s) 0 (steps s) (x s) lent) (q-is s) ∙ tried-code e8 nearest (q s) (m s) (x s) (steps s) lent h
 
 refused-report-requires : tie.Need-refused-report-requires
 refused-report-requires c κs = search needs
@@ -145,7 +138,7 @@ module _ (c : tie.After-decode-one-arg) where
       ∙ ap (drop 1) (part-is k (fitting here))
 
   digits-good : IsCode 8 (q b) (m b) (drop 1 (code k))
-  digits-good = block-code (q b) (m b) (two b) (b .pre .1 .power) (steps b) (b .pre .1 .listed) (x b) (b .pre .0) (fitting here)
+  digits-good = block-code (b .args .q) (m b) (steps b) (b .pre .1) (x b) (b .pre .0) (fitting here)
 
 decode-one-requires : tie.Need-decode-one-requires
 decode-one-requires c κs = let v = b c in simp (toZ-ofZ, v .fits .q) (v .pre .1 .base, omega (arith, v .pre .1 .power), subst (IsCode 8 (q v) (m v)) (sym (digits-are c)) (digits-good c))
@@ -182,7 +175,7 @@ cast-report-readings c = simp (toZ-ofZ, fz c) (gz c)
 
 report-readings-requires : tie.Need-report-readings-requires
 report-readings-requires c κs = let a = c .before in let v = b (d a) in
-    simp (toZ-ofZ, fz a, gz a) (subst₂ (Reportables (x v)) (sym (step-is a)) (sym (point-is (a .before))) (block-reportable (q v) (m v) (two v) (v .pre .1 .power) (steps v) (v .pre .1 .listed) (x v) (v .pre .0) (fitting (here (d a)))))
+    simp (toZ-ofZ, fz a, gz a) (subst₂ (Reportables (x v)) (sym (step-is a)) (sym (point-is (a .before))) (block-reportable (v .args .q) (m v) (steps v) (v .pre .1) (x v) (v .pre .0) (fitting (here (d a)))))
 
 returns-2 : tie.Need-returns-2
 returns-2 c =

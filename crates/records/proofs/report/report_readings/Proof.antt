@@ -1,5 +1,5 @@
 -- `report_readings` fills by the report on each reading: after i turns the first i entries are right.
-use mathlib.Core.Path.{_≡_, refl, sym, _∙_, ap, ap₂}
+use mathlib.Core.Path.{_≡_, refl, sym, _∙_, ap}
 use mathlib.Core.List.{List}
 use Prim.Native.Nat.{ℕ, _+_, _-_}
 use native.Mathlib.Omega.{arith}
@@ -93,8 +93,8 @@ loop-less c = omega arith
 loop-again : tie.Need-loop-again Inv-loop μ-loop
 loop-again c =
     let a = c .before in let b = l a in let h = a .before .before .loop-test .taken in let f = reports (x b) (s b) (e b) in
-    let z : i a ≡ 0 + i a = omega arith in
-    let here : c .report-reading .result ≡ f (getD (range 0 8) (i a) 0) = (simp (toZ-ofZ, start b .fits .s, fx a, fe a) at (c .report-reading .ensures)) ∙ ap f (sym (range-at 0 8 (i a) 0 h ∙ sym z)) in
+    let z : 0 + i a ≡ i a = omega arith in
+    let here : c .report-reading .result ≡ f (getD (range 0 8) (i a) 0) = (simp (toZ-ofZ, start b .fits .s, fx a, fe a) at (c .report-reading .ensures)) ∙ ap f (sym (range-at (λ (j : ℕ). j) 0 8 (i a) 0 h ∙ z)) in
     simp (toZ-ofZ, start b .fits .s) (filled-more f 8 (range 0 8) refl 0 (c .report-reading .result) here h (filled b))
 
 returns : tie.Need-returns Inv-loop μ-loop
