@@ -13,11 +13,12 @@ use Rattle.refusals.specs.declared.settings.Settings.{Settings}
 use Rattle.refusals.specs.declared.Refusal.the-variants.{Byte, Steps, Record}
 use Rattle.refusals.specs.declared.Verdict.{Verdict}
 use Rattle.refusals.specs.declared.Verdict.the-variants.{Accepted, Refused}
-use Rattle.refusals.specs.Laws.Allowed.{Allowed, steps-allowed}
+use Rattle.refusals.specs.Laws.Allowed.{Allowed, AllowedSteps, steps-allowed}
 use Rattle.refusals.specs.Laws.Verdicts.{refused-never, unless-accepted, first-accepted, first-last}
 use Rattle.refusals.specs.Settings.{checkSettings}
 use Rattle.refusals.specs.Steps.{checkSteps}
 use Rattle.refusals.specs.Verdicts.{firstRefusal}
+use Rattle.blocks.specs.Limits.{UsedSteps}
 use Rattle.layers.specs.Answers.{checkBelow}
 use Rattle.layers.specs.Digits.{Below, cut}
 use Rattle.layers.specs.Laws.Asked.{checked-allowed, allowed-base, below-taken}
@@ -40,6 +41,10 @@ coder-taken c place steps e f = let a = checked-allowed c e in
 -- both checked as one
 pub coder-accepted : (c : Settings) (steps : List ℤ) → firstRefusal (checkSettings c ∷ checkSteps 0 steps ∷ []) ≡ Accepted → CoderTaken c steps
 coder-accepted c steps e = let s = first-accepted (checkSettings c) (checkSteps 0 steps ∷ []) e in coder-taken c 0 steps (s .0) (first-accepted (checkSteps 0 steps) [] (s .1) .0)
+
+-- such a list is one that blocks are coded with
+pub used-steps : (l : List ℤ) → AllowedSteps l → UsedSteps l
+used-steps l h = record { few = omega (arith, h .few); each = λ i k. record { least = h .each i k .least; most = omega (arith, h .each i k .most) } }
 
 module _ (steps q : ℕ) where
   block-taken : (m i : ℕ) (b : List ℕ) → length b ≡ blockSize m → checkBlock steps q i b ≡ Accepted → IsBlock steps q m b
@@ -76,7 +81,7 @@ pub record RecordTaken (steps q m least most : ℕ) (b : List ℕ) : Type 0 wher
 
 -- the blocks of a good frame are there
 pub frame-holds : (m least most : ℕ) (b : List ℕ) → Framed 1 (blockSize m) least most b → blockSize m * blocksIn m b ≤ length (drop 4 b)
-frame-holds m least most b h = simp length-drop (omega (arith, h .dimension, h .complete))
+frame-holds m least most b h = simp length-drop (omega (arith, h .whole .times, h .complete))
 
 pub record-taken : (steps q m least most place i : ℕ) (b : List ℕ) → checkFrame m least most place b ≡ Accepted → checkBlocks steps q (blockSize m) i (codeBlocks m b) ≡ Accepted → RecordTaken steps q m least most b
 record-taken steps q m least most place i b e f = let h = record-framed 1 (blockSize m) least most b (unless-accepted _ (Record place) e) in

@@ -1,4 +1,4 @@
--- What it says that a record's frame is good.
+-- What it says that a number is a number of whole blocks, and that a record's frame is good.
 use mathlib.Core.Path.{_≡_}
 use mathlib.Core.Bool.{true, _&&_}
 use mathlib.Core.List.{List}
@@ -12,26 +12,36 @@ use Rattle.integers.specs.Laws.Tests.{and-true}
 use Rattle.readings.specs.Words.{wordAt}
 use Rattle.records.specs.Frames.{wholeBlocks, goodRecord}
 
--- the dimension is there and is K times size, K is from least to most, and no entry of `width` bytes is cut off
+-- n is K times size, and K is from least to most
+pub record Whole (size least most n : ℕ) : Type 0 where
+  pub times : n ≡ size * (n / size)
+  pub some : least ≤ n / size
+  pub few : n / size ≤ most
+
+pub blocks-whole : (size least most n : ℕ) → wholeBlocks size least most n ≡ true → Whole size least most n
+unfolding wholeBlocks
+blocks-whole size least most n e =
+    let t = and-true (eqb (n % size) 0) (leb least (n / size) && leb (n / size) most) e in let u = and-true (leb least (n / size)) (leb (n / size) most) (t .1) in
+    record { times = omega (arith, div-add-mod' n size, eqb-true (n % size) 0 (t .0)); some = leb-true least (n / size) (u .0); few = leb-true (n / size) most (u .1) }
+
+-- the dimension is there and is so many blocks, and no entry of `width` bytes is cut off
 pub record Framed (width size least most : ℕ) (b : List ℕ) : Type 0 where
   pub there : 4 ≤ length b
-  pub dimension : wordAt b 0 ≡ size * (wordAt b 0 / size)
-  pub some : least ≤ wordAt b 0 / size
-  pub few : wordAt b 0 / size ≤ most
+  pub whole : Whole size least most (wordAt b 0)
   pub complete : 4 + width * wordAt b 0 ≤ length b
 
-pub record-framed : (width size least most : ℕ) (b : List ℕ) → goodRecord width size least most b ≡ true → Framed width size least most b
-unfolding goodRecord wholeBlocks
-record-framed width size least most b e =
-    let n : ℕ = wordAt b 0 in
-    let t = and-true (leb 4 (length b)) (wholeBlocks size least most n && leb (4 + width * n) (length b)) e in
-    let u = and-true (wholeBlocks size least most n) (leb (4 + width * n) (length b)) (t .1) in
-    let v = and-true (eqb (n % size) 0) (leb least (n / size) && leb (n / size) most) (u .0) in
-    let w = and-true (leb least (n / size)) (leb (n / size) most) (v .1) in
-    record {
-      there = leb-true 4 (length b) (t .0);
-      dimension = omega (arith, div-add-mod' n size, eqb-true (n % size) 0 (v .0));
-      some = leb-true least (n / size) (w .0);
-      few = leb-true (n / size) most (w .1);
-      complete = leb-true (4 + width * n) (length b) (u .1);
-    }
+module _ (width size least most : ℕ) (b : List ℕ) (e : goodRecord width size least most b ≡ true) where
+  abbrev n : ℕ
+  n = wordAt b 0
+
+  tests : (leb 4 (length b) ≡ true) × (wholeBlocks size least most n ≡ true) × (leb (4 + width * n) (length b) ≡ true)
+  unfolding goodRecord
+  tests =
+      let t = and-true (leb 4 (length b)) (wholeBlocks size least most n && leb (4 + width * n) (length b)) e in
+      let u = and-true (wholeBlocks size least most n) (leb (4 + width * n) (length b)) (t .1) in (t .0, u .0, u .1)
+
+  pub record-whole : wholeBlocks size least most n ≡ true
+  record-whole = tests .1
+
+  pub record-framed : Framed width size least most b
+  record-framed = record { there = leb-true 4 (length b) (tests .0); whole = blocks-whole size least most n record-whole; complete = leb-true (4 + width * n) (length b) (tests .2) }

@@ -127,10 +127,10 @@ blocks-in-requires : tie.Need-blocks-in-requires
 blocks-in-requires c κs = (omega (arith, m-is (g c), taken (told (g c)) .allowed .m-most), frame c .there)
 
 mul-if2 : tie.Need-mul-if2
-mul-if2 c = omega (arith, k-is c, frame (t c) .few)
+mul-if2 c = omega (arith, k-is c, frame (t c) .whole .few)
 
 add-if2 : tie.Need-add-if2
-add-if2 c = omega (arith, k-is c, frame (t c) .few)
+add-if2 c = omega (arith, k-is c, frame (t c) .whole .few)
 
 returns : tie.Need-returns
 returns c = let b = c .before in let e = t b in

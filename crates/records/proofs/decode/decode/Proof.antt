@@ -81,7 +81,7 @@ module _ (c : tie.After-put-record) where
   n-is = c .put-record .ensures .0 ∙ ap (λ (m : ℕ). fvecsLength (blocksIn m (code t))) (m-is l)
 
   n-fits : SFits w64 (pos (c .put-record .result))
-  n-fits = record { sfits = omega (arith, n-is, taken (told l) .input .frame .few) }
+  n-fits = record { sfits = omega (arith, n-is, taken (told l) .input .frame .whole .few) }
 
   abbrev last : List ℕ
   last = c .put-record .last .1 .1 .1 .1 .0
@@ -114,7 +114,7 @@ put-record-requires c κs = let l = c .before in let t = k (told l) in let h = t
     simp (toZ-ofZ, fits l) (
       subst₂ (λ (z : ℤ) (m : ℕ). Coder z m (steps t)) (sym (q-is l)) (sym (m-is l)) (h .taken .coder),
       h .input .frame .there,
-      subst (λ (m : ℕ). blocksIn m (code t) ≤ 64) (sym (m-is l)) (h .input .frame .few),
+      subst (λ (m : ℕ). blocksIn m (code t) ≤ 64) (sym (m-is l)) (h .input .frame .whole .few),
       subst₂ (λ (z : ℤ) (m : ℕ). AreBlocks (length (steps t)) (natAbs z) m (blocksIn m (code t)) (drop 4 (code t))) (sym (q-is l)) (sym (m-is l)) (h .input .blocks),
       subst (λ (m : ℕ). fvecsLength (blocksIn m (code t)) ≤ length (found t)) (sym (m-is l)) (h .fits),
     )

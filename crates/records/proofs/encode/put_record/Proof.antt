@@ -17,14 +17,13 @@ use Rattle.readings.specs.Words.{bytesOf}
 use Rattle.refusals.specs.declared.Verdict.{Verdict}
 use Rattle.refusals.specs.declared.Verdict.the-variants.{Accepted}
 use Rattle.refusals.specs.Answers.{valued, written}
-use Rattle.blocks.specs.Limits.{UsedSteps}
 use Rattle.records.specs.Codes.{blockSize, codeLength}
 use Rattle.records.specs.Encode.{checkFits, codeBytes, codeRecord}
 use Rattle.records.specs.Vectors.{inBlocks}
-use Rattle.records.specs.Laws.Coders.{used-steps}
+use Rattle.records.specs.Laws.Asked.{used-steps}
 use Rattle.records.specs.Laws.Encode.{codeBytes-long, codeRecord-long}
 use Rattle.records.specs.Laws.Parts.{cut-long, rest-whole, write-rest}
-use Rattle.records.specs.Laws.Wholes.{Whole, blocks-whole}
+use Rattle.records.specs.Laws.Frames.{Whole, blocks-whole}
 use Rattle.records.proofs.encode.put_record.Statement.{statement}
 use Rattle.records.proofs.encode.put_record.Tie as tie
 

@@ -1,0 +1,82 @@
+-- What it says of an hour, in either form, that its count and all its readings were taken.
+use mathlib.Core.Path.{_≡_, refl, sym, _∙_, ap, subst}
+use mathlib.Core.Bool.{true, _&&_}
+use mathlib.Core.List.{List, [], _∷_, map}
+use Prim.Native.Nat.{ℕ, zero, suc, _+_, _*_, _≤_}
+use native.Mathlib.Omega.{arith}
+use lib.IntN.{ℤ, natAbs}
+use lib.Ieee.{binary32, ofBits}
+use lib.ListN.{length, length-map}
+use Rattle.integers.specs.Laws.Loops.{range}
+use Rattle.integers.specs.Vectors.{«at», Bounded}
+use Rattle.readings.specs.declared.Measured.{Measured}
+use Rattle.readings.specs.declared.Measured.the-variants as measured
+use Rattle.readings.specs.Laws.Taking.{units-in-range, units-same, float-in-range}
+use Rattle.readings.specs.Taking.{unitsMost, measureUnits, InRange}
+use Rattle.readings.specs.Words.{wordAt, measureAt}
+use Rattle.refusals.specs.declared.Refusal.the-variants.{Size, Record}
+use Rattle.refusals.specs.declared.Verdict.the-variants.{Accepted}
+use Rattle.refusals.specs.Laws.Verdicts.{refused-never, unless-accepted}
+use Rattle.refusals.specs.Limits.{blocksMost}
+use Rattle.records.specs.Frames.{wholeBlocks, goodRecord}
+use Rattle.records.specs.Laws.Frames.{record-whole}
+use Rattle.records.specs.Laws.Vectors.{readings-all}
+use Rattle.records.specs.Vectors.{Hour, unitsHour, fvecsHour, checkReadings, unitsTaken}
+
+-- every reading that there is is in range
+abbrev pub Ranged : List Measured → Type 0
+Ranged [] = Unit {0}
+Ranged (r ∷ l) = InRange r × Ranged l
+
+map-ranged : {A : Type 0} (f : A → Measured) → ((a : A) → InRange (f a)) → (l : List A) → Ranged (map f l)
+map-ranged f h [] = tt
+map-ranged f h (a ∷ l) = (h a, map-ranged f h l)
+
+pub units-small : (l : List Measured) → Ranged l → Bounded unitsMost (unitsTaken l)
+units-small [] h i = omega arith
+units-small (measured.Units X ∷ l) h zero = h .0
+units-small (measured.Units X ∷ l) h (suc i) = units-small l (h .1) i
+units-small (measured.Missing ∷ l) h i = omega arith
+units-small (measured.OutOfRange ∷ l) h i = omega arith
+
+-- either form of an hour: its count is allowed where its frame is, and its readings are in range
+pub record Sound (h : Hour) : Type 0 where
+  pub counted : h .frame ≡ Accepted → wholeBlocks 8 1 blocksMost (length (h .readings)) ≡ true
+  pub ranged : Ranged (h .readings)
+
+pub units-sound : (x : List ℤ) → Sound (unitsHour x)
+units-sound x = record {
+  counted = λ e. ap (wholeBlocks 8 1 blocksMost) (length-map x measureUnits) ∙ unless-accepted _ (Size 0) e;
+  ranged = map-ranged measureUnits units-in-range x;
+}
+
+range-long : (i n : ℕ) → length (range i n) ≡ n
+range-long i zero = refl
+range-long i (suc n) = ap suc (range-long (suc i) n)
+
+pub fvecs-count : (b : List ℕ) → length (fvecsHour b .readings) ≡ wordAt b 0
+fvecs-count b = length-map (range 0 (wordAt b 0)) (λ (i : ℕ). measureAt b (4 + 4 * i)) ∙ range-long 0 (wordAt b 0)
+
+pub fvecs-sound : (b : List ℕ) → Sound (fvecsHour b)
+fvecs-sound b = record {
+  counted = λ e. ap (wholeBlocks 8 1 blocksMost) (fvecs-count b) ∙ record-whole 4 8 1 blocksMost b (unless-accepted _ (Record 0) e);
+  ranged = map-ranged (λ (i : ℕ). measureAt b (4 + 4 * i)) (λ i. float-in-range (ofBits binary32 (wordAt b (4 + 4 * i)))) (range 0 (wordAt b 0));
+}
+
+-- where no reading is refused X has one for each
+pub taken-all : (l : List Measured) → checkReadings 0 l ≡ Accepted → length (unitsTaken l) ≡ length l
+taken-all l e = sym (length-map (unitsTaken l) measured.Units) ∙ ap length (sym (readings-all 0 l e))
+
+-- and whole units are X themselves
+pub units-taken : (i : ℕ) (x : List ℤ) → checkReadings i (map measureUnits x) ≡ Accepted → unitsTaken (map measureUnits x) ≡ x
+units-taken i [] e = refl
+units-taken i (z ∷ x) e = go (measureUnits z) refl e (units-taken (suc i) x)
+  where
+    go : (r : Measured) → measureUnits z ≡ r → checkReadings i (r ∷ map measureUnits x) ≡ Accepted → (checkReadings (suc i) (map measureUnits x) ≡ Accepted → unitsTaken (map measureUnits x) ≡ x)
+        → unitsTaken (r ∷ map measureUnits x) ≡ z ∷ x
+    go (measured.Units Y) m e rest = let y : Y ≡ z = sym (units-same z Y m) in cons y (rest e)
+      where
+        cons : {x y : ℤ} {a b : List ℤ} → x ≡ y → a ≡ b → x ∷ a ≡ y ∷ b
+        cons p q = cc
+    go measured.Missing m e rest = refused-never e
+    go measured.OutOfRange m e rest = refused-never e
