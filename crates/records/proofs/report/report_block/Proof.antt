@@ -102,7 +102,7 @@ refused-report-requires c κs = search needs
 returns : tie.Need-returns
 returns c = let k = c .before .before .before in let b = s k in
     c .refused-report .ensures
-    ∙ ap (λ (v : Verdict). reported v (blockReport (q b) (m b) (steps b) (x b))) (sym (fits-none (q b) (m b) (steps b) 0 (x b) [] (subst (λ (t : ℕ). length (steps b) ≤ t) (t-is k) (c .before .if1 .taken))))
+    ∙ ap (λ (v : Verdict). reported v (blockReport (q b) (m b) (steps b) (x b))) (sym (fits-none (q b) (m b) (steps b) 0 (x b) [] (omega (arith, t-is k, c .before .if1 .taken))))
 
 -- where a step fits
 module _ (c : tie.Else1) where

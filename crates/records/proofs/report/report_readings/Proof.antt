@@ -76,7 +76,7 @@ element-copy-out-report-reading : tie.Need-element-copy-out-report-reading Inv-l
 element-copy-out-report-reading c = omega arith
 
 report-reading-requires : tie.Need-report-reading-requires Inv-loop μ-loop
-report-reading-requires c κs = let b = start (l c) in simp (toZ-ofZ, b .fits .s, fx c, fe c) (b .pre .each (i c) (c .before .before .loop-test .taken))
+report-reading-requires c κs = let b = start (l c) in simp (toZ-ofZ, b .fits .s, fx c, fe c) (b .pre .each (i c) (omega arith))
 
 mul-r : tie.Need-mul-r Inv-loop μ-loop
 mul-r c = omega arith
@@ -92,10 +92,9 @@ loop-less c = omega arith
 
 loop-again : tie.Need-loop-again Inv-loop μ-loop
 loop-again c =
-    let a = c .before in let b = l a in let h = a .before .before .loop-test .taken in let f = reports (x b) (s b) (e b) in
-    let z : 0 + i a ≡ i a = omega arith in
-    let here : c .report-reading .result ≡ f (getD (range 0 8) (i a) 0) = (simp (toZ-ofZ, start b .fits .s, fx a, fe a) at (c .report-reading .ensures)) ∙ ap f (sym (range-at (λ (j : ℕ). j) 0 8 (i a) 0 h ∙ z)) in
-    simp (toZ-ofZ, start b .fits .s) (filled-more f 8 (range 0 8) refl 0 (c .report-reading .result) here h (filled b))
+    let a = c .before in let b = l a in let f = reports (x b) (s b) (e b) in let z : 0 + i a ≡ i a = omega arith in
+    let here : c .report-reading .result ≡ f (getD (range 0 8) (i a) 0) = (simp (toZ-ofZ, start b .fits .s, fx a, fe a) at (c .report-reading .ensures)) ∙ ap f (sym (range-at (λ (j : ℕ). j) 0 8 (i a) 0 (omega arith) ∙ z)) in
+    simp (toZ-ofZ, start b .fits .s) (filled-more f 8 (range 0 8) refl 0 (c .report-reading .result) here (omega arith) (filled b))
 
 returns : tie.Need-returns Inv-loop μ-loop
 returns c = let l = c .before in filled-all (reports (x l) (s l) (e l)) 8 (range 0 8) refl (omega arith) (filled l)
