@@ -7,5 +7,6 @@ pub mod Codes
 pub mod Least
 pub mod Asked
 pub mod Encode
+pub mod Encoded
 pub mod Decode
 pub mod Report
