@@ -8,11 +8,12 @@ use lib.IntN.{ℤ, pos, natAbs}
 use lib.ListN.{length}
 use Rattle.refusals.specs.declared.settings.Settings.{Settings}
 use Rattle.refusals.specs.declared.Refusal.{Refusal}
-use Rattle.refusals.specs.declared.Refusal.the-variants.{Size}
+use Rattle.refusals.specs.declared.Refusal.the-variants.{Size, Record}
 use Rattle.refusals.specs.declared.Verdict.{Verdict}
 use Rattle.refusals.specs.declared.Verdict.the-variants.{Accepted, Refused}
 use Rattle.refusals.specs.Answers.{valued, written}
 use Rattle.refusals.specs.Laws.Verdicts.{unless-accepted, first-accepted, first-last, first-append}
+use Rattle.refusals.specs.Limits.{blocksMost}
 use Rattle.refusals.specs.Settings.{checkSettings}
 use Rattle.refusals.specs.Steps.{checkSteps}
 use Rattle.refusals.specs.Verdicts.{unless, firstRefusal}
@@ -20,8 +21,9 @@ use Rattle.records.specs.Codes.{codeLength}
 use Rattle.records.specs.Encode.{UnitsTaken, checkFits, codeRecord, encodeAsked, checkEncode, encoded, encodedRoom}
 use Rattle.records.specs.Frames.{wholeBlocks}
 use Rattle.records.specs.Laws.Asked.{CoderTaken, coder-taken}
+use Rattle.records.specs.Laws.Frames.{Framed, record-framed}
 use Rattle.records.specs.Laws.Hours.{Sound, units-small, taken-all}
-use Rattle.records.specs.Vectors.{Hour, checkReadings, unitsTaken, blocksOf, inBlocks}
+use Rattle.records.specs.Vectors.{Hour, fvecsHour, checkReadings, unitsTaken, blocksOf, inBlocks}
 
 -- what was asked for is allowed, and every reading was taken
 pub record EncodeTaken (c : Settings) (steps : List ℤ) (h : Hour) (room : ℕ) : Type 0 where
@@ -76,6 +78,14 @@ module _ (c : Settings) (steps : List ℤ) (h : Hour) (room : ℕ) where
         long = long;
         fits = leb-true (codeLength (natAbs (c .m)) (blocksOf h)) room (unless-accepted _ (Size 1) (o .0));
       }
+
+-- a record whose frame was accepted
+pub asked-framed : (c : Settings) (steps : List ℤ) (b : List ℕ) (room : ℕ) → encodeAsked c steps (fvecsHour b) room ≡ Accepted → Framed 4 8 1 blocksMost b
+unfolding encodeAsked
+asked-framed c steps b room e =
+    let h : Hour = fvecsHour b in let roomy : Verdict = unless (leb (codeLength (natAbs (c .m)) (blocksOf h)) room) (Size 1) in
+    let s = first-accepted (checkSettings c) (checkSteps 0 steps ∷ h .frame ∷ roomy ∷ []) e in let l = first-accepted (checkSteps 0 steps) (h .frame ∷ roomy ∷ []) (s .1) in
+    record-framed 4 8 1 blocksMost b (unless-accepted _ (Record 0) (first-accepted (h .frame) (roomy ∷ []) (l .1) .0))
 
 -- what the core answers and writes is the whole answer and the room
 module _ (c : Settings) (steps : List ℤ) (h : Hour) (out : List ℕ) (e : firstRefusal (encodeAsked c steps h (length out) ∷ checkReadings 0 (h .readings) ∷ []) ≡ Accepted)
