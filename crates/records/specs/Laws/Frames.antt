@@ -20,6 +20,7 @@ pub record Framed (width size least most : ℕ) (b : List ℕ) : Type 0 where
   pub few : wordAt b 0 / size ≤ most
   pub complete : 4 + width * wordAt b 0 ≤ length b
 
+-- the test says all of that
 pub record-framed : (width size least most : ℕ) (b : List ℕ) → goodRecord width size least most b ≡ true → Framed width size least most b
 unfolding goodRecord wholeBlocks
 record-framed width size least most b e =
