@@ -1,4 +1,6 @@
 -- Proved facts of records.
+pub mod Wholes
+pub mod Coders
 pub mod Parts
 pub mod Frames
 pub mod Vectors

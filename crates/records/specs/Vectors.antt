@@ -43,9 +43,10 @@ unitsTaken (measured.Units X ∷ r) = X ∷ unitsTaken r
 unitsTaken (measured.Missing ∷ r) = []
 unitsTaken (measured.OutOfRange ∷ r) = []
 
--- K, the number of its blocks, and X in blocks of eight
+-- K, the number of its blocks
 abbrev pub blocksOf : Hour → ℕ
 blocksOf h = length (h .readings) / 8
 
-abbrev pub blockUnits : Hour → List (List ℤ)
-blockUnits h = cut 8 (blocksOf h) (unitsTaken (h .readings))
+-- X in blocks of eight
+abbrev pub inBlocks : List ℤ → List (List ℤ)
+inBlocks X = cut 8 (length X / 8) X

@@ -13,8 +13,8 @@ use Rattle.layers.specs.Digits.{cut}
 use Rattle.layers.specs.E8.{e8, nearest}
 use Rattle.refusals.specs.declared.Refusal.the-variants.{Overload}
 use Rattle.refusals.specs.declared.Verdict.the-variants.{Refused}
-use Rattle.records.specs.Codes.{blockSize}
-use Rattle.records.specs.Encode.{checkFits, codeBytes}
+use Rattle.records.specs.Codes.{blockSize, codeLength}
+use Rattle.records.specs.Encode.{checkFits, codeBytes, codeRecord}
 use Rattle.records.specs.Laws.Parts.{cut-more, joined-more}
 
 module _ (q m : ℕ) (steps : List ℤ) (k : ℕ) (X : List ℤ) (l : List (List ℤ)) where
@@ -37,3 +37,6 @@ module _ (q m : ℕ) (steps : List ℤ) where
 
   pub codeBytes-more : (i : ℕ) (X : List ℤ) → codeBytes q m steps (cut 8 (i + 1) X) ≡ codeBytes q m steps (cut 8 i X) ++ blockCode e8 nearest q m steps (take 8 (drop (8 * i) X))
   codeBytes-more i X = ap (codeBytes q m steps) (cut-more 8 i X) ∙ joined-more (blockCode e8 nearest q m steps) (cut 8 i X) (take 8 (drop (8 * i) X))
+
+  pub codeRecord-long : (l : List (List ℤ)) → length (codeRecord q m steps l) ≡ codeLength m (length l)
+  codeRecord-long l = omega (arith, codeBytes-long l)
