@@ -31,6 +31,7 @@ pub record CoderTaken (c : Settings) (steps : List ℤ) : Type 0 where
   pub allowed : Allowed (c .q) (c .m)
   pub coder : Coder (c .q) (natAbs (c .m)) steps
 
+-- checked one after the other
 pub coder-taken : (c : Settings) (place : ℕ) (steps : List ℤ) → checkSettings c ≡ Accepted → checkSteps place steps ≡ Accepted → CoderTaken c steps
 coder-taken c place steps e f = let a = checked-allowed c e in
     record {
@@ -47,6 +48,7 @@ pub used-steps : (l : List ℤ) → AllowedSteps l → UsedSteps l
 used-steps l h = record { few = omega (arith, h .few); each = λ i k. record { least = h .each i k .least; most = omega (arith, h .each i k .most) } }
 
 module _ (steps q : ℕ) where
+  -- a block
   block-taken : (m i : ℕ) (b : List ℕ) → length b ≡ blockSize m → checkBlock steps q i b ≡ Accepted → IsBlock steps q m b
   block-taken m i b h e = let k = go (ltb (getD b 0 0) steps) (ltb-true (getD b 0 0) steps) (sym (block-opened steps q i b (omega arith)) ∙ e) in
       record { long = h; first = k .0; code = record { long = simp length-drop (omega arith); below = k .1 } }
@@ -59,6 +61,7 @@ module _ (steps q : ℕ) where
     abbrev n : ℕ
     n = blockSize m
 
+    -- each of k blocks
     each-taken : (k i : ℕ) (f : List ℕ) → n * k ≤ length f → checkBlocks steps q n i (cut n k f) ≡ Accepted → (j : ℕ) → j < k → IsBlock steps q m (take n (drop (n * j) f))
     each-taken zero i f h e = λ j l. absurd (omega arith)
     each-taken (suc k) i f h e =
@@ -83,6 +86,7 @@ pub record RecordTaken (steps q m least most : ℕ) (b : List ℕ) : Type 0 wher
 pub frame-holds : (m least most : ℕ) (b : List ℕ) → Framed 1 (blockSize m) least most b → blockSize m * blocksIn m b ≤ length (drop 4 b)
 frame-holds m least most b h = simp length-drop (omega (arith, h .whole .times, h .complete))
 
+-- its two checks accept
 pub record-taken : (steps q m least most place i : ℕ) (b : List ℕ) → checkFrame m least most place b ≡ Accepted → checkBlocks steps q (blockSize m) i (codeBlocks m b) ≡ Accepted → RecordTaken steps q m least most b
 record-taken steps q m least most place i b e f = let h = record-framed 1 (blockSize m) least most b (unless-accepted _ (Record place) e) in
     record { frame = h; blocks = blocks-taken steps q m (blocksIn m b) i (drop 4 b) (frame-holds m least most b h) f }

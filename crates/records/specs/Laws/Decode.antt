@@ -31,11 +31,13 @@ block-readable q m steps b c h =
       exact = decode-times8 (natAbs q) m q> f (h .code) two (c .power) (stepOf steps b) (c .listed .each (getD b 0 0) (h .first) .most);
     }
 
+-- settings, steps, record and room of an accepted decoding
 pub record DecodeTaken (c : Settings) (steps : List ℤ) (b : List ℕ) (room : ℕ) : Type 0 where
   pub taken : CoderTaken c steps
   pub input : RecordTaken (length steps) (natAbs (c .q)) (natAbs (c .m)) 1 blocksMost b
   pub fits : fvecsLength (blocksIn (natAbs (c .m)) b) ≤ room
 
+-- the checks say all of that
 pub decode-taken : (c : Settings) (steps : List ℤ) (b : List ℕ) (room : ℕ) → checkDecode c steps b room ≡ Accepted → DecodeTaken c steps b room
 unfolding checkDecode
 decode-taken c steps b room e =

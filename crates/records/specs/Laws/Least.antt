@@ -48,6 +48,7 @@ module _ (limit other : ℕ → ℕ) (f g : List ℕ) (n : ℕ) (bytes : (j : �
   good-same : (k : ℕ) → k ≤ n → Good limit f k → Good other g k
   good-same k l h j m = subst₂ _<_ (bytes j (omega arith)) (limits j (omega arith)) (h j m)
 
+  -- and their verdicts
   least-same : (p : ℕ) (v : Verdict) → Least limit f n p v → Least other g n p v
   least-same p v (inl h) = inl (h .0, good-same n (omega arith) (h .1))
   least-same p v (inr h) = let w = h .2 .within in
@@ -59,6 +60,7 @@ module _ (limit : ℕ → ℕ) (t : ℕ) (ds : List ℕ) (n p : ℕ) (v : Verdic
   good-more k h rest zero l = h
   good-more k h rest (suc j) l = rest j (omega arith)
 
+  -- the first decides, then the others
   first-byte : Least (λ (j : ℕ). limit (suc j)) ds n (suc p) v → Least limit (t ∷ ds) (suc n) p (cond (ltb t (limit 0)) v (Refused (Byte p)))
   first-byte rest = go (ltb t (limit 0)) (ltb-true t (limit 0)) (ltb-false t (limit 0)) rest
     where
@@ -86,6 +88,7 @@ module _ (limit : ℕ → ℕ) (f : List ℕ) (a : ℕ) where
     | no m ↦ h j (omega arith)
   ]
 
+  -- the first verdict that refuses
   least-both : (b p : ℕ) (v w : Verdict) → Least limit f a p v → Least (λ (j : ℕ). limit (a + j)) (drop a f) b (p + a) w → Least limit f (a + b) p (firstRefusal (v ∷ w ∷ []))
   least-both b p v w (inr h) r = inr (h .0, ap (λ (v : Verdict). firstRefusal (v ∷ w ∷ [])) (h .1), record { within = omega (arith, h .2 .within); over = h .2 .over; under = h .2 .under })
   least-both b p v w (inl h) (inl k) = inl (cc, good-both b (h .1) (k .1))

@@ -29,6 +29,7 @@ module _ {A : Type 0} (n : ℕ) (f : List A) where
       ap (λ (j : ℕ). cut n j g) e ∙ ap (λ (r : List A). take n g ∷ cut n (k - (i + 1)) r) (drop-drop n (n * i) f ∙ ap (λ (j : ℕ). drop j f) s)
 
 module _ {A : Type 0} (n : ℕ) where
+  -- there are as many parts as asked for
   pub cut-long : (k : ℕ) (f : List A) → length (cut n k f) ≡ k
   cut-long zero f = refl
   cut-long (suc k) f = ap suc (cut-long k (drop n f))
@@ -43,6 +44,7 @@ module _ {A : Type 0} (n : ℕ) where
           ap (λ (r : List (List A)). take n f ∷ r) (go i (drop n f) ∙ ap (λ (g : List A). cut n i (drop n f) ++ (take n g ∷ [])) (drop-drop (n * i) n f ∙ ap (λ (j : ℕ). drop j f) s))
 
 module _ {A : Type 0} where
+  -- two rows of parts, joined
   pub joined-append : (a b : List (List A)) → joined (a ++ b) ≡ joined a ++ joined b
   joined-append [] b = refl
   joined-append (x ∷ a) b = ap (λ (l : List A). x ++ l) (joined-append a b) ∙ sym (append-assoc x (joined a) (joined b))
@@ -52,6 +54,7 @@ module _ {A B : Type 0} (f : A → List B) where
   pub joined-more : (l : List A) (x : A) → joined (map f (l ++ (x ∷ []))) ≡ joined (map f l) ++ f x
   joined-more l x = ap joined (map-append f l (x ∷ [])) ∙ joined-append (map f l) (f x ∷ []) ∙ ap (λ (r : List B). joined (map f l) ++ r) (append-nil (f x))
 
+  -- the same for the first i + 1 of a list
   pub joined-take : (l : List A) (i : ℕ) (d : A) → i < length l → joined (map f (take (i + 1) l)) ≡ joined (map f (take i l)) ++ f (getD l i d)
   joined-take l i d h = ap (λ (r : List A). joined (map f r)) (ap (λ (j : ℕ). take j l) (add-one i) ∙ take-suc l i d h) ∙ joined-more (take i l) (getD l i d)
 
