@@ -7,7 +7,7 @@ use second::lent::Lent;
 use second::random::Random;
 
 use super::{Group, Work};
-use crate::boundary::{self, PointAnswer};
+use crate::boundary::{self, answers::PointAnswer};
 
 /// The groups of the point coder, of the point decoder, and of the way there and back.
 pub const GROUPS: &[(&str, Work)] = &[
@@ -42,8 +42,7 @@ fn compare_coder(group: &mut Group, settings: Settings, e: &[i32], length: usize
 
 /// Compares the coding of a point at allowed settings, into room that is longer by 0 to 15.
 fn compare_point(group: &mut Group, random: &mut Random, layout: Layout, e: &[i32; 8]) {
-    let longer = random.below(16) as usize;
-    compare_coder(group, lent(layout), e, layout.digits() + longer);
+    compare_coder(group, lent(layout), e, layout.digits() + random.place(16));
 }
 
 /// Compares the decoding of a digit list, and that the digits stay as they were.
