@@ -190,5 +190,6 @@ int main(void) {
     whole_decoding(2, 4);
     whole_decoding(16, 3);
     coding(16, 3, 8000);
+    records();
     return 0;
 }

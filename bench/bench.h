@@ -33,3 +33,6 @@ enum { WAY_COUNT = 3 };
 enum { WAY_COUNT = 2 };
 #define WAYS(f) {{"library", run_ek_##f, 0}, {"gcc -O3", run_gcc_##f, 0}}
 #endif
+
+/* The jobs over records. */
+void records(void);
