@@ -1,15 +1,13 @@
 /* Times the library beside C for the same job, in one run on one machine, and prints ratios: below 1 the library is faster. */
 #define _POSIX_C_SOURCE 199309L
-#include <stdio.h>
-#include <string.h>
 #include <time.h>
 
-#include "enkhovrag.h"
+#include "bench.h"
 
 typedef ek_taken take_fn(uint32_t);
 typedef ek_point nearest_fn(const int32_t *, size_t, int32_t);
-typedef ek_point code_fn(int32_t, int32_t, const int32_t *, size_t, uint8_t *, size_t);
-typedef ek_point decode_fn(int32_t, int32_t, const uint8_t *, size_t);
+typedef ek_point code_fn(ek_settings, const int32_t *, size_t, uint8_t *, size_t);
+typedef ek_point decode_fn(ek_settings, const uint8_t *, size_t);
 
 #define C_VERSIONS(cc) \
     take_fn cc##_take_double, cc##_take_shift; \
@@ -21,35 +19,28 @@ C_VERSIONS(gcc)
 C_VERSIONS(clang)
 #endif
 
-enum { BLOCKS = 4096, ROUNDS = 200 };
+enum { ROUNDS = 200 };
 
 static int32_t input[BLOCKS][8];
 static uint8_t digits[BLOCKS][32];
 static uint32_t patterns[8 * BLOCKS];
-static volatile double sink;
 static uint64_t state = 88172645463325252ULL;
+volatile double sink;
 
-static uint64_t next(void) {
+uint64_t next(void) {
     state ^= state << 13;
     state ^= state >> 7;
     state ^= state << 17;
     return state;
 }
 
-static double now(void) {
+double now(void) {
     struct timespec t;
     clock_gettime(CLOCK_MONOTONIC, &t);
     return t.tv_sec * 1e9 + t.tv_nsec;
 }
 
-/* One way of doing a job: its name, a run over the whole input in nanoseconds an item, and the best run so far. */
-struct way {
-    const char *name;
-    double (*run)(void);
-    double best;
-};
-
-static void compare(const char *job, struct way *ways, int n) {
+void compare(const char *job, struct way *ways, int n) {
     for (int k = 0; k < n; k++) ways[k].best = 1e30;
     for (int r = 0; r < ROUNDS; r++)
         for (int k = 0; k < n; k++) {
@@ -145,10 +136,10 @@ static void nearest_point(int32_t s, int32_t most) {
 
 /* ---- decoding and coding a point */
 
-static int32_t q, m;
+static ek_settings settings;
 
-#define DECODE_RUN(f) POINT_RUN(f, q, m, digits[i], 8 * m)
-#define CODE_RUN(f) POINT_RUN(f, q, m, input[i], 8, digits[i], 32)
+#define DECODE_RUN(f) POINT_RUN(f, settings, digits[i], 8 * settings.m)
+#define CODE_RUN(f) POINT_RUN(f, settings, input[i], 8, digits[i], 32)
 
 DECODE_RUN(ek_point_of_digits)
 DECODE_RUN(gcc_point_of_digits)
@@ -159,45 +150,35 @@ DECODE_RUN(clang_point_of_digits)
 CODE_RUN(clang_digits_of_point)
 #endif
 
-#ifdef CLANG
-enum { LAYER_WAY_COUNT = 3 };
-#define LAYER_WAYS(f) {{"library", run_ek_##f, 0}, {"gcc -O3", run_gcc_##f, 0}, {"clang -O3", run_clang_##f, 0}}
-#else
-enum { LAYER_WAY_COUNT = 2 };
-#define LAYER_WAYS(f) {{"library", run_ek_##f, 0}, {"gcc -O3", run_gcc_##f, 0}}
-#endif
-
 static void compare_layers(const char *name, struct way *ways) {
     char job[64];
-    snprintf(job, sizeof job, "%s, q = %d, M = %d", name, q, m);
-    compare(job, ways, LAYER_WAY_COUNT);
+    snprintf(job, sizeof job, "%s, q = %d, M = %d", name, settings.q, settings.m);
+    compare(job, ways, WAY_COUNT);
 }
 
-static void whole_decoding(int32_t base, int32_t layers) {
-    q = base;
-    m = layers;
+static void whole_decoding(int32_t q, int32_t m) {
+    settings = (ek_settings){q, m};
     for (int i = 0; i < BLOCKS; i++) {
         for (int j = 0; j < 8 * m; j++) digits[i][j] = next() % q;
-        ek_point a = ek_point_of_digits(q, m, digits[i], 8 * m), b = gcc_point_of_digits(q, m, digits[i], 8 * m);
+        ek_point a = ek_point_of_digits(settings, digits[i], 8 * m), b = gcc_point_of_digits(settings, digits[i], 8 * m);
         if (memcmp(&a, &b, sizeof a) != 0) printf("whole decoding DIFFERS at block %d\n", i);
     }
-    struct way ways[] = LAYER_WAYS(point_of_digits);
+    struct way ways[] = WAYS(point_of_digits);
     compare_layers("whole decoding", ways);
 }
 
-static void coding(int32_t base, int32_t layers, int32_t most) {
-    q = base;
-    m = layers;
+static void coding(int32_t q, int32_t m, int32_t most) {
+    settings = (ek_settings){q, m};
     for (int i = 0; i < BLOCKS; i++) {
         uint8_t other[32];
         int32_t d[8];
         for (int j = 0; j < 8; j++) d[j] = (int32_t)(next() % (2 * (uint64_t)most + 1)) - most;
         memcpy(input[i], ek_nearest(d, 8, 1).e, sizeof input[i]);
         memcpy(other, digits[i], sizeof other);
-        ek_point a = ek_digits_of_point(q, m, input[i], 8, digits[i], 32), b = gcc_digits_of_point(q, m, input[i], 8, other, 32);
+        ek_point a = ek_digits_of_point(settings, input[i], 8, digits[i], 32), b = gcc_digits_of_point(settings, input[i], 8, other, 32);
         if (memcmp(&a, &b, sizeof a) != 0 || memcmp(digits[i], other, sizeof other) != 0) printf("coding a point DIFFERS at block %d\n", i);
     }
-    struct way ways[] = LAYER_WAYS(digits_of_point);
+    struct way ways[] = WAYS(digits_of_point);
     compare_layers("coding a point", ways);
 }
 
@@ -209,5 +190,6 @@ int main(void) {
     whole_decoding(2, 4);
     whole_decoding(16, 3);
     coding(16, 3, 8000);
+    records();
     return 0;
 }

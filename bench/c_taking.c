@@ -3,10 +3,8 @@
 #include <math.h>
 #include <string.h>
 
+#include "c_names.h"
 #include "enkhovrag.h"
-
-#define JOIN(a, b) a##b
-#define NAME(a, b) JOIN(a, b)
 
 ek_taken NAME(PREFIX, _take_double)(uint32_t bits) {
     ek_taken t = {0, 0.0f};

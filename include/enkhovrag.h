@@ -1,13 +1,16 @@
 /* Enkhovrag: a verified dosing coder. Link libunit.a; nothing else is needed.
  *
- * Every answer has a number: 0 is accepted; any other is the refusal of that number, with its place, and all values 0.
- * A refusal leaves all lent memory as it was. Pointers must be good for their lengths and lent buffers must not overlap:
+ * Every answer has a number: 0 is accepted; any other is the refusal of that number, with its place, and all values 0. Of several
+ * faults the one answered is the first in the order that a function's comment names them in. A refusal leaves all lent memory as it
+ * was, and what a function only reads it never changes. Pointers must be good for their lengths and lent buffers must not overlap:
  * that is the caller's duty, which no proof covers.
  *
- *     int32_t d[8] = {0, 2, 0, 0, 0, 0, 0, 0};
- *     ek_point p = ek_nearest(d, 8, 1);
- *     if (p.number != 0) printf("refused %llu %llu\n", (unsigned long long)p.number, (unsigned long long)p.place);
- *     else printf("%d %d\n", p.e[0], p.e[1]);    // -2 2
+ *     ek_settings settings = {3, 1};
+ *     int32_t steps[2] = {1, 1000}, units[8] = {0, 1, 0, 0, 0, 0, 0, 0};
+ *     uint8_t record[13];
+ *     ek_answer a = ek_encode_units(settings, steps, 2, units, 8, record, sizeof record);
+ *     if (a.number != 0) printf("refused %llu %llu\n", (unsigned long long)a.number, (unsigned long long)a.place);
+ *     else printf("%lld bytes, step %d\n", (long long)a.value, steps[record[4]]);    // 13 bytes, step 1
  */
 #ifndef ENKHOVRAG_H
 #define ENKHOVRAG_H
@@ -18,6 +21,14 @@
 #ifdef __cplusplus
 extern "C" {
 #endif
+
+/* The settings of a code: digits from 0 to q - 1, and m layers of eight digits to a block. They are allowed where q is 2 to 16, m is
+ * 1 to 4 and q^m is at most 4096. */
+typedef struct {
+    int32_t q, m;
+} ek_settings;
+
+/* ---- one reading */
 
 /* A reading as taken: number 0 and its value, 4 if it is missing, 5 if it is out of range. */
 typedef struct {
@@ -31,6 +42,8 @@ ek_taken ek_take_bits(uint32_t bits);
 
 /* Takes a reading that arrives as X whole units of 1/1024. Past 2^24 in magnitude it is out of range. */
 ek_taken ek_take_units(int32_t x);
+
+/* ---- one point */
 
 /* A doubled point of E8: eight signed numbers of equal parity with a sum divisible by 4. */
 typedef struct {
@@ -46,14 +59,69 @@ ek_point ek_nearest(const int32_t *d, size_t d_len, int32_t s);
 /* Codes the doubled point e: writes its 8m digits, each below q, to the front of out, layer 0 first, and answers what is left over
  * after m layers: e is the point of the digits plus q^m times the answer. No point is refused for what is left over. Bytes of out
  * past 8m stay; a refusal leaves all of out as found.
- * Refuses 1 (place 0) unless q is 2 to 16, m is 1 to 4 and q^m is at most 4096; 3 (place 0) if e_len is not 8; 3 (place 1) if
- * out_len is below 8m; 9 (place 0) if some e[i] is past 2^26 in magnitude or e is not a doubled point of E8. */
-ek_point ek_digits_of_point(int32_t q, int32_t m, const int32_t *e, size_t e_len, uint8_t *out, size_t out_len);
+ * Refuses 1 (place 0) unless the settings are allowed; 3 (place 0) if e_len is not 8; 3 (place 1) if out_len is below 8m;
+ * 9 (place 0) if some e[i] is past 2^26 in magnitude or e is not a doubled point of E8. */
+ek_point ek_digits_of_point(ek_settings settings, const int32_t *e, size_t e_len, uint8_t *out, size_t out_len);
 
 /* The doubled point of 8m digits, layer 0 first: the sum of q^k times the layer point of layer k.
- * Refuses 1 (place 0) as ek_digits_of_point does; 3 (place 0) if digits_len is not 8m; 7 (place i) if digits[i] is the first digit
- * that is not below q. */
-ek_point ek_point_of_digits(int32_t q, int32_t m, const uint8_t *digits, size_t digits_len);
+ * Refuses 1 (place 0) unless the settings are allowed; 3 (place 0) if digits_len is not 8m; 7 (place i) if digits[i] is the first
+ * digit that is not below q. */
+ek_point ek_point_of_digits(ek_settings settings, const uint8_t *digits, size_t digits_len);
+
+/* ---- records
+ *
+ * A step list has 1 to 4 steps, each from 1 to 1024 units of 1/1024 and each greater than the one before it. A vector has 8 to 512
+ * readings, a multiple of 8, which are K blocks of eight. For each block the point nearest to its X over a step is coded, with the
+ * first step on the list that leaves nothing over after m layers; T is that step's place on the list, from 0.
+ *
+ * Records begin with a dimension of four bytes, least byte first. An fvecs record holds readings: their count, then each as a
+ * binary32 of four bytes, least byte first. A bvecs record holds codes: K(8m+1), then for each block T and its 8m digits, layer 0
+ * first. Bytes of an input past its record are not read; bytes of out past the record that is written stay. */
+
+/* An answer that is one whole number: here the number of bytes written to out. */
+typedef struct {
+    uint64_t number, place;
+    int64_t value;
+} ek_answer;
+
+/* Encodes the readings of an fvecs record into a bvecs record at the front of out, 4 + K(8m+1) bytes.
+ * Refuses 1 (place 0) unless the settings are allowed; 2 (place 0) unless the step list keeps its rule; 10 (place 0) if in_len is
+ * below 4, the count is not allowed or in_len is below 4 + 4 times the count; 3 (place 1) if out_len is below 4 + K(8m+1);
+ * 4 (place i) if reading i is missing or 5 (place i) if it is out of range, i the first reading that is either; 6 (place b) if
+ * block b is the first that no step of the list fits. */
+ek_answer ek_encode(ek_settings settings, const int32_t *steps, size_t steps_len, const uint8_t *in, size_t in_len, uint8_t *out,
+                    size_t out_len);
+
+/* Encodes readings that arrive as whole units of 1/1024, as ek_encode does.
+ * Refuses 1 (place 0) unless the settings are allowed; 2 (place 0) unless the step list keeps its rule; 3 (place 0) if units_len is
+ * not an allowed count; 3 (place 1) if out_len is below 4 + K(8m+1); 5 (place i) if units[i] is the first past 2^24 in magnitude;
+ * 6 (place b) if block b is the first that no step of the list fits. */
+ek_answer ek_encode_units(ek_settings settings, const int32_t *steps, size_t steps_len, const int32_t *units, size_t units_len,
+                          uint8_t *out, size_t out_len);
+
+/* Decodes a bvecs record into an fvecs record at the front of out, 4 + 32K bytes: each reading is s e / 2048, exactly, s the step
+ * that T names and e the doubled point of the block's digits. A zero is never minus zero.
+ * Refuses 1 (place 0) unless the settings are allowed; 2 (place 0) unless the step list keeps its rule; 10 (place 0) if in_len is
+ * below 4, the dimension is not K(8m+1) with K from 1 to 64 or in_len is below 4 plus the dimension; 3 (place 1) if out_len is
+ * below 4 + 32K; 7 (place i) if byte i after the dimension is the first that is a digit not below q or a T past the list. */
+ek_answer ek_decode(ek_settings settings, const int32_t *steps, size_t steps_len, const uint8_t *in, size_t in_len, uint8_t *out,
+                    size_t out_len);
+
+/* One reading of a report: as taken X/1024, as decoded s e / 2048, and taken minus decoded, all exact. */
+typedef struct {
+    float taken, decoded, difference;
+} ek_reading;
+
+/* A report on one block. */
+typedef struct {
+    uint64_t number, place;
+    ek_reading reading[8];
+} ek_report_answer;
+
+/* Reports what coding does to a block of eight readings in whole units of 1/1024.
+ * Refuses 1 (place 0) unless the settings are allowed; 2 (place 0) unless the step list keeps its rule; 3 (place 0) if units_len is
+ * not 8; 5 (place i) if units[i] is the first past 2^24 in magnitude; 6 (place 0) if no step of the list fits. */
+ek_report_answer ek_report(ek_settings settings, const int32_t *steps, size_t steps_len, const int32_t *units, size_t units_len);
 
 #ifdef __cplusplus
 }

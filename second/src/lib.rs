@@ -1,5 +1,6 @@
 //! Document 01's rules a second time, each computed as it is defined, to be compared with the proved library.
 
+pub mod built;
 pub mod drawn;
 pub mod lattice;
 pub mod layers;

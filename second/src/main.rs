@@ -7,14 +7,14 @@ mod comparison;
 
 use std::process::ExitCode;
 
-use comparison::{layers, nearest, taking, Group, Work};
+use comparison::{taking, Group, Work, GROUPS};
 
 /// Does the work that the argument asks for and prints how many groups passed and failed.
 fn main() -> ExitCode {
     let argument = std::env::args().nth(1).unwrap_or("1".into());
     let (groups, amount) = match (argument.as_str(), argument.parse()) {
         ("all", _) => (vec![("ek_take_bits, every pattern", taking::every_pattern as Work)], 1),
-        (_, Ok(amount @ 1..)) => ([taking::GROUPS, nearest::GROUPS, layers::GROUPS].concat(), amount),
+        (_, Ok(amount @ 1..)) => (GROUPS.concat(), amount),
         _ => {
             eprintln!("usage: second [AMOUNT | all]");
             return ExitCode::from(2);

@@ -29,8 +29,13 @@ impl Random {
         low + self.below((high - low + 1) as u64) as i64
     }
 
+    /// A place on a list of this length.
+    pub fn place(&mut self, length: usize) -> usize {
+        self.below(length as u64) as usize
+    }
+
     /// One entry of a list.
     pub fn pick<V: Copy>(&mut self, list: &[V]) -> V {
-        list[self.below(list.len() as u64) as usize]
+        list[self.place(list.len())]
     }
 }

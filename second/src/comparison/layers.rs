@@ -1,13 +1,13 @@
 //! Coding and decoding a point: both programs on lent points, digits and room.
 
-use second::drawn::{allowed_layouts, drawn_digits, drawn_point, lent};
+use second::drawn::{allowed_layouts, drawn_digits, drawn_point, drawn_settings, lent, REFUSED_SETTINGS};
 use second::lattice::Point;
 use second::layers::{digits_of_point, point_of_digits, Layout, Settings};
 use second::lent::Lent;
 use second::random::Random;
 
 use super::{Group, Work};
-use crate::boundary::{self, PointAnswer};
+use crate::boundary::{self, answers::PointAnswer};
 
 /// The groups of the point coder, of the point decoder, and of the way there and back.
 pub const GROUPS: &[(&str, Work)] = &[
@@ -30,63 +30,24 @@ pub const GROUPS: &[(&str, Work)] = &[
 /// The greatest magnitude of a coordinate.
 const FARTHEST: i32 = 1 << 26;
 
-/// What stands beside lent coordinates.
-const GUARD: i32 = 0x5a5a_5a5a;
-
-/// What stands beside lent bytes.
-const BYTE_GUARD: u8 = 0xa5;
-
-/// Settings that are refused.
-const REFUSED: [(i32, i32); 22] = [
-    (16, 4),
-    (9, 4),
-    (2, 0),
-    (2, 5),
-    (1, 1),
-    (17, 1),
-    (0, 1),
-    (0, 0),
-    (-1, 1),
-    (-2, 2),
-    (2, -1),
-    (-4, -1),
-    (4097, 1),
-    (258, 1),
-    (2, 257),
-    (65536, 2),
-    (i32::MIN, 1),
-    (i32::MAX, 1),
-    (2, i32::MIN),
-    (2, i32::MAX),
-    (i32::MIN, i32::MIN),
-    (i32::MAX, i32::MAX),
-];
-
-/// So many bytes to write over, none of them a digit.
-fn room_of(length: usize) -> Lent<u8> {
-    let content: Vec<u8> = (0..length).map(|i| 100 + (i % 64) as u8).collect();
-    Lent::new(&content, BYTE_GUARD)
-}
-
 /// Compares the coding of a point into so much room: the leftover, the whole room, and that the point stays as it was.
 fn compare_coder(group: &mut Group, settings: Settings, e: &[i32], length: usize) {
-    let point = Lent::new(e, GUARD);
-    let (mut expected_room, mut library_room) = (room_of(length), room_of(length));
+    let point = Lent::new(e);
+    let (mut expected_room, mut library_room) = (Lent::room_of(length), Lent::room_of(length));
     let expected = digits_of_point(settings, e, expected_room.room()).into();
     let library = boundary::digits_of_point(settings, point.content(), library_room.room());
-    let untouched = Lent::new(e, GUARD);
+    let untouched = Lent::new(e);
     group.compare(&(settings, e, length), (expected, expected_room, untouched), (library, library_room, point));
 }
 
 /// Compares the coding of a point at allowed settings, into room that is longer by 0 to 15.
 fn compare_point(group: &mut Group, random: &mut Random, layout: Layout, e: &[i32; 8]) {
-    let longer = random.below(16) as usize;
-    compare_coder(group, lent(layout), e, layout.digits() + longer);
+    compare_coder(group, lent(layout), e, layout.digits() + random.place(16));
 }
 
 /// Compares the decoding of a digit list, and that the digits stay as they were.
 fn compare_decoder(group: &mut Group, settings: Settings, digits: &[u8]) {
-    let list = Lent::new(digits, BYTE_GUARD);
+    let list = Lent::new(digits);
     let expected = (point_of_digits(settings, digits).into(), list.clone());
     let library = boundary::point_of_digits(settings, list.content());
     group.compare(&(settings, digits), expected, (library, list));
@@ -95,13 +56,6 @@ fn compare_decoder(group: &mut Group, settings: Settings, digits: &[u8]) {
 /// A point as it is lent.
 fn lent_point(e: Point) -> [i32; 8] {
     e.map(|e| e as i32)
-}
-
-/// Settings, an allowed pair as often as a refused one.
-fn drawn_settings(random: &mut Random) -> Settings {
-    let (q, m) = random.pick(&REFUSED);
-    let layout = random.pick(&allowed_layouts());
-    random.pick(&[lent(layout), Settings { q, m }])
 }
 
 /// Points from all that are allowed, small ones as often as far ones, at every allowed setting.
@@ -157,7 +111,7 @@ fn not_points(group: &mut Group, amount: u64) {
             let limit = i64::from(FARTHEST) >> random.below(26);
             let mut e = lent_point(drawn_point(&mut random, limit));
             for _ in 0..random.between(1, 3) {
-                e[random.below(8) as usize] += random.pick(&[-3, -2, -1, 1, 2, 3]);
+                e[random.place(8)] += random.pick(&[-3, -2, -1, 1, 2, 3]);
             }
             compare_point(group, &mut random, layout, &e);
         }
@@ -180,15 +134,15 @@ fn rooms(group: &mut Group, _: u64) {
 /// Refused settings, points of other counts, room that is too short, coordinates far past their limits, one fault or several.
 fn wrong_points(group: &mut Group, amount: u64) {
     let mut random = Random::new(306);
-    for (q, m) in REFUSED {
-        compare_coder(group, Settings { q, m }, &[0; 8], 32);
+    for settings in REFUSED_SETTINGS {
+        compare_coder(group, settings, &[0; 8], 32);
     }
     for _ in 0..20_000 * amount {
         let settings = drawn_settings(&mut random);
         let mut e = drawn_point(&mut random, 1_000).map(|e| e as i32).repeat(2);
         e.truncate(random.pick(&[8, 8, 8, 8, 0, 1, 7, 9, 16]));
         if !e.is_empty() && random.below(2) == 0 {
-            let index = random.below(e.len() as u64) as usize;
+            let index = random.place(e.len());
             e[index] = random.pick(&[FARTHEST, FARTHEST + 2, -FARTHEST - 2, i32::MAX, i32::MIN, i32::MIN + 2, 1, 2]);
         }
         let length = random.pick(&[0, 7, 8, 15, 16, 23, 24, 31, 32, 33, 40]);
@@ -256,7 +210,7 @@ fn several_damaged(group: &mut Group, amount: u64) {
             let mut digits = drawn_digits(&mut random, layout);
             for _ in 0..random.between(2, 6) {
                 let damage = random.between(layout.q, 255);
-                digits[random.below(layout.digits() as u64) as usize] = random.pick(&[layout.q, damage]) as u8;
+                digits[random.place(layout.digits())] = random.pick(&[layout.q, damage]) as u8;
             }
             compare_decoder(group, lent(layout), &digits);
         }
@@ -266,8 +220,8 @@ fn several_damaged(group: &mut Group, amount: u64) {
 /// Refused settings, lists of other lengths, bytes of any kind, one fault or several.
 fn wrong_digits(group: &mut Group, amount: u64) {
     let mut random = Random::new(310);
-    for (q, m) in REFUSED {
-        compare_decoder(group, Settings { q, m }, &[0; 8]);
+    for settings in REFUSED_SETTINGS {
+        compare_decoder(group, settings, &[0; 8]);
     }
     for _ in 0..20_000 * amount {
         let settings = drawn_settings(&mut random);
@@ -283,9 +237,9 @@ fn digits_and_back(group: &mut Group, amount: u64) {
     let mut random = Random::new(311);
     for layout in allowed_layouts() {
         for _ in 0..1_000 * amount {
-            let digits = Lent::new(&drawn_digits(&mut random, layout), BYTE_GUARD);
+            let digits = Lent::new(&drawn_digits(&mut random, layout));
             let point = boundary::point_of_digits(lent(layout), digits.content());
-            let mut again = room_of(layout.digits());
+            let mut again = Lent::room_of(layout.digits());
             let leftover = boundary::digits_of_point(lent(layout), &point.e, again.room());
             group.compare(&(layout, point), (PointAnswer::from(Ok([0; 8])), digits), (leftover, again));
         }
@@ -299,12 +253,12 @@ fn points_and_back(group: &mut Group, amount: u64) {
         for _ in 0..1_000 * amount {
             let limit = i64::from(FARTHEST) >> random.below(26);
             let point = drawn_point(&mut random, limit);
-            let mut digits = room_of(layout.digits());
+            let mut digits = Lent::room_of(layout.digits());
             let leftover = boundary::digits_of_point(lent(layout), &lent_point(point), digits.room()).e;
             let decoded = boundary::point_of_digits(lent(layout), digits.content()).e;
             let weight = layout.weight(layout.layers);
             let again = std::array::from_fn(|i| i64::from(decoded[i]) + weight * i64::from(leftover[i]));
-            let untouched = Lent::new(digits.content(), BYTE_GUARD);
+            let untouched = Lent::new(digits.content());
             group.compare(&(layout, point), (point, untouched), (again, digits));
         }
     }

@@ -1,18 +1,36 @@
 //! The comparison: groups of inputs on which both programs must give the same answer and leave the same buffers.
 //!
-//! An exported function joins with its declaration in `boundary`, a file of its groups here, and their name in `main`.
+//! An exported function joins with its declaration in `boundary`, a file of its groups here, and their name in `GROUPS`.
 
 pub mod layers;
 pub mod nearest;
+pub mod records;
 pub mod taking;
 
 use std::fmt::Debug;
+
+use records::{decoding, encoding, faults, inputs, orders, reports, rooms, round_trips};
 
 /// The number of differences that a group prints.
 const PRINTED: u64 = 5;
 
 /// What a group does with an amount of work.
 pub type Work = fn(&mut Group, u64);
+
+/// All groups, the lowest floor's first.
+pub const GROUPS: [&[(&str, Work)]; 11] = [
+    taking::GROUPS,
+    nearest::GROUPS,
+    layers::GROUPS,
+    orders::GROUPS,
+    encoding::GROUPS,
+    inputs::GROUPS,
+    decoding::GROUPS,
+    rooms::GROUPS,
+    faults::GROUPS,
+    reports::GROUPS,
+    round_trips::GROUPS,
+];
 
 /// A group of comparisons: its name and what came of it.
 pub struct Group {

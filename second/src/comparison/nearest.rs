@@ -20,12 +20,9 @@ pub const GROUPS: &[(&str, Work)] = &[
 /// The greatest magnitude of a numerator.
 const FARTHEST: i32 = 1 << 26;
 
-/// What stands beside lent numerators.
-const GUARD: i32 = 0x5a5a_5a5a;
-
 /// Compares the nearest point for numerators and a divisor, and that the numerators stay as they were.
 fn compare_nearest(group: &mut Group, d: &[i32], s: i32) {
-    let lent = Lent::new(d, GUARD);
+    let lent = Lent::new(d);
     let expected = (nearest_point(d, s).into(), lent.clone());
     let library = boundary::nearest(lent.content(), s);
     group.compare(&(d, s), expected, (library, lent));
@@ -102,7 +99,7 @@ fn wrong(group: &mut Group, amount: u64) {
         let count = random.pick(&[8, 8, 8, 0, 1, 7, 9, 16]);
         let mut d: Vec<i32> = (0..count).map(|_| random.between(-5_000, 5_000) as i32).collect();
         if count > 0 && random.below(2) == 0 {
-            let index = random.below(count) as usize;
+            let index = random.place(count);
             d[index] =
                 random.pick(&[FARTHEST, FARTHEST + 1, -FARTHEST, -FARTHEST - 1, i32::MAX, i32::MIN, i32::MIN + 1]);
         }

@@ -1,6 +1,7 @@
 //! Blocks A to J (01, The proved blocks).
 
-use super::{bvecs, eight, refused, settings};
+use super::{eight, refused, settings};
+use crate::built::bvecs;
 use crate::lattice::{is_point, nearest, nearest_point, Point};
 use crate::layers::point_of_digits;
 use crate::records::{encode, Vector};

@@ -1,6 +1,7 @@
 //! The edges that document 01 names (01, When the unit says no).
 
-use super::{bvecs, eight, fvecs, refused, settings};
+use super::{eight, refused, settings};
+use crate::built::{bvecs, fvecs};
 use crate::layers::{allowed_steps, digits_of_point, point_of_digits};
 use crate::records::{encode, Vector};
 use crate::scores::query_score;

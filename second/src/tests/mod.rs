@@ -1,6 +1,7 @@
 //! Document 01's vectors, edges and laws, run against this program alone.
 
 mod blocks;
+mod drawn;
 mod edges;
 mod lattice;
 mod layers;
@@ -10,8 +11,7 @@ mod records;
 mod showing;
 mod tables;
 
-use crate::layers::{Layout, Settings};
-use crate::random::Random;
+use crate::layers::Settings;
 use crate::refusals::{Answer, Refusal};
 
 /// Settings q and M.
@@ -27,28 +27,4 @@ fn refused<V>(number: u64, place: u64) -> Answer<V> {
 /// Eight numbers that begin so and end in zeros.
 fn eight<N: Copy + Default>(start: &[N]) -> [N; 8] {
     std::array::from_fn(|i| start.get(i).copied().unwrap_or_default())
-}
-
-/// The record with this dimension and body.
-fn record(dimension: u32, body: &[u8]) -> Vec<u8> {
-    [&dimension.to_le_bytes(), body].concat()
-}
-
-/// The fvecs record of readings.
-fn fvecs(readings: &[f32]) -> Vec<u8> {
-    let body: Vec<u8> = readings.iter().flat_map(|reading| reading.to_le_bytes()).collect();
-    record(readings.len() as u32, &body)
-}
-
-/// The bvecs record of a body.
-fn bvecs(body: &[u8]) -> Vec<u8> {
-    record(body.len() as u32, body)
-}
-
-/// A good record of so many blocks at settings, with a list of so many steps, all its bytes drawn.
-fn drawn_record(random: &mut Random, layout: Layout, blocks: usize, steps: i64) -> Vec<u8> {
-    let size = layout.block_bytes();
-    let limit = |index: usize| if index.is_multiple_of(size) { steps } else { layout.q };
-    let body: Vec<u8> = (0..blocks * size).map(|index| random.between(0, limit(index) - 1) as u8).collect();
-    bvecs(&body)
 }

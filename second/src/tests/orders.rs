@@ -1,6 +1,7 @@
 //! Two faults at once: the one that document 01's order names first is given, and lent room stays as it was.
 
-use super::{bvecs, eight, fvecs, record, refused, settings};
+use super::{eight, refused, settings};
+use crate::built::{bvecs, fvecs, record};
 use crate::layers::digits_of_point;
 use crate::lent::Lent;
 use crate::records::{decode, encode, Vector};
@@ -23,7 +24,7 @@ const BAD_DIGIT: [u8; 9] = [0, 0, 0, 99, 0, 0, 0, 0, 0];
 
 /// Checks that encoding at q 2, M 1 and step 1 refuses so and leaves its room alone.
 fn encode_refuses(steps: &[i32], vector: Vector, room_length: usize, number: u64, place: u64) {
-    let before = Lent::new(&vec![0xee; room_length], 0x5a);
+    let before = Lent::new(&vec![0xee; room_length]);
     let mut after = before.clone();
     assert_eq!(encode(settings(2, 1), steps, vector, after.room()), refused(number, place));
     assert_eq!(after, before);
@@ -31,7 +32,7 @@ fn encode_refuses(steps: &[i32], vector: Vector, room_length: usize, number: u64
 
 /// Checks that decoding at q 2, M 1 and step 1 refuses so and leaves its room alone.
 fn decode_refuses(record: &[u8], room_length: usize, number: u64, place: u64) {
-    let before = Lent::new(&vec![0xee; room_length], 0x5a);
+    let before = Lent::new(&vec![0xee; room_length]);
     let mut after = before.clone();
     assert_eq!(decode(settings(2, 1), &[1], record, after.room()), refused(number, place));
     assert_eq!(after, before);
@@ -47,7 +48,7 @@ fn encode_takes_the_first_fitting_step() {
     let mut room = [0; 21];
     let vector = Vector::Units(&FITS_26_NOT_29);
     assert_eq!(encode(settings(2, 2), &[26, 29], vector, &mut room), Ok(21));
-    assert_eq!(room[4], 0);
+    assert_eq!(room, [17, 0, 0, 0, 0, 0, 1, 1, 1, 1, 1, 1, 0, 1, 0, 0, 0, 0, 0, 1, 0]);
     assert_eq!(encode(settings(2, 2), &[29], vector, &mut room), refused(6, 0));
 }
 
@@ -92,9 +93,9 @@ fn encode_names_the_first_overload() {
 
 #[test]
 fn encode_keeps_what_is_past_the_record() {
-    let mut lent = Lent::new(&[0xee; 15], 0x5a);
+    let mut lent = Lent::new(&[0xee; 15]);
     assert_eq!(encode(settings(2, 1), &[1], Vector::Units(&[0; 8]), lent.room()), Ok(13));
-    assert_eq!(lent, Lent::new(&[9, 0, 0, 0, 0, 0, 0, 0, 0, 0, 0, 0, 0, 0xee, 0xee], 0x5a));
+    assert_eq!(lent, Lent::new(&[9, 0, 0, 0, 0, 0, 0, 0, 0, 0, 0, 0, 0, 0xee, 0xee]));
 }
 
 #[test]

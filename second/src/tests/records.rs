@@ -1,7 +1,8 @@
 //! Records, reports and scores for every allowed q and M (01, Bytes; Scores).
 
-use super::{bvecs, drawn_record, eight, fvecs, refused, settings};
-use crate::drawn::{allowed_layouts, lent};
+use super::{eight, refused, settings};
+use crate::built::{bvecs, fvecs, fvecs_of_units};
+use crate::drawn::{allowed_layouts, drawn_record, lent};
 use crate::layers::{digits_and_leftover, Layout};
 use crate::random::Random;
 use crate::records::{decode, encode, report, Vector};
@@ -31,7 +32,7 @@ fn both_forms_of_a_vector_encode_alike() {
     let mut random = Random::new(42);
     for layout in allowed_layouts() {
         let units: [i32; 16] = std::array::from_fn(|_| random.between(-3_000, 3_000) as i32);
-        let record = fvecs(&units.map(|x| x as f32 / 1024.0));
+        let record = fvecs_of_units(&units);
         let (mut one, mut other) = ([0xee; 70], [0xee; 70]);
         let steps = [700, 1024];
         let by_units = encode(lent(layout), &steps, Vector::Units(&units), &mut one);

@@ -1,7 +1,8 @@
 //! Tables as the filler leaves them, and scores by them (01, Scores).
 
-use super::{bvecs, drawn_record, settings};
-use crate::drawn::lent;
+use super::settings;
+use crate::built::bvecs;
+use crate::drawn::{drawn_record, lent};
 use crate::layers::Layout;
 use crate::random::Random;
 use crate::records::Vector;
