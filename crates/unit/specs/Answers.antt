@@ -1,16 +1,23 @@
 -- What C hands over, and answers as it takes them: the number and place of the verdict, then the values.
-use lib.IntN.{ℤ}
+use mathlib.Core.List.{map}
+use Rattle.readings.specs.declared.Reading.{Reading}
 use Rattle.readings.specs.declared.Taken.{Taken}
 use Rattle.readings.specs.Taking.{takenNumber, takenValue}
+use Rattle.refusals.specs.declared.Answer.{Answer}
 use Rattle.refusals.specs.declared.settings.Settings.{Settings}
 use Rattle.refusals.specs.Verdicts.{numberOf, placeOf}
 use Rattle.lattice.specs.declared.PointAnswer.{PointAnswer}
+use Rattle.records.specs.declared.report.ReportAnswer.{ReportAnswer}
+use Rattle.unit.specs.declared.EkAnswer.{EkAnswer}
 use Rattle.unit.specs.declared.EkPoint.{EkPoint}
+use Rattle.unit.specs.declared.EkReading.{EkReading}
+use Rattle.unit.specs.declared.EkReportAnswer.{EkReportAnswer}
+use Rattle.unit.specs.declared.EkSettings.{EkSettings}
 use Rattle.unit.specs.declared.EkTaken.{EkTaken}
 
 -- settings
-abbrev pub settings : ℤ → ℤ → Settings
-settings q m = record { q = q; m = m }
+abbrev pub settings : EkSettings → Settings
+settings s = record { q = s .q; m = s .m }
 
 -- a taken reading
 abbrev pub takenOut : Taken → EkTaken
@@ -19,3 +26,14 @@ takenOut t = record { number = takenNumber t; value = takenValue t }
 -- a doubled point
 abbrev pub pointOut : PointAnswer → EkPoint
 pointOut a = record { number = numberOf (a .verdict); place = placeOf (a .verdict); e = a .point }
+
+-- an answer whose value is one number
+abbrev pub answerOut : Answer → EkAnswer
+answerOut a = record { number = numberOf (a .verdict); place = placeOf (a .verdict); value = a .value }
+
+-- one reading of a report, and a report
+abbrev pub readingOut : Reading → EkReading
+readingOut r = record { taken = r .taken; decoded = r .decoded; difference = r .difference }
+
+abbrev pub reportOut : ReportAnswer → EkReportAnswer
+reportOut a = record { number = numberOf (a .verdict); place = placeOf (a .verdict); reading = map readingOut (a .readings) }

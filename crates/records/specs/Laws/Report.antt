@@ -124,6 +124,15 @@ module _ (q : ℤ) (m : ℕ) (steps : List ℤ) (coder : Coder q m steps) (X : L
     };
   }
 
+-- an answer has eight readings, refused or not
+pub report-long : (c : Settings) (steps x : List ℤ) → length (report c steps x .readings) ≡ 8
+unfolding report
+report-long c steps x = go (checkReport c steps x)
+  where
+    go : (v : Verdict) → length (reported v (blockReport (natAbs (c .q)) (natAbs (c .m)) steps x) .readings) ≡ 8
+    go Accepted = refl
+    go (Refused r) = refl
+
 -- the entry j of what f makes of a range
 pub range-at : {A : Type 0} (f : ℕ → A) (i n j : ℕ) (d : A) → j < n → getD (map f (range i n)) j d ≡ f (i + j)
 range-at f i zero j d h = absurd (omega arith)
