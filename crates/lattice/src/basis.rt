@@ -4,7 +4,7 @@ ghost use mathlib.Core.List.{[]};
 ghost use Prim.Native.Nat.{_^_, _<_};
 ghost use lib.ListN.{getD};
 ghost use Rattle.integers.specs.Vectors.{dot, Sized};
-ghost use Rattle.lattice.specs.Basis.{Table8, apply, floors, pointOf, coefficients};
+ghost use Rattle.lattice.specs.Basis.{Table8, inverse, apply, floors, pointOf, coefficients};
 
 // Row k gives e_k of the coefficients.
 pub const BASIS: [[i64; 8]; 8] = [
@@ -44,23 +44,6 @@ fn row(t: &[[i64; 8]; 8], i: usize, c: &[i64; 8]) -> i64
     s
 }
 
-// A table by a vector. Eight calls with a fixed row each, so that the compiler folds a constant table into sums.
-fn apply(t: &[[i64; 8]; 8], c: &[i64; 8]) -> [i64; 8]
-    requires { ⌜ Table8 (now t) × Sized 8 (2 ^ 32) (now c) ⌝ }
-    ensures { λ r. ⌜ (r ≡ apply (now (t .entry)) (now (c .entry))) × Sized 8 (2 ^ 39) r ⌝ }
-{
-    [
-        row(t, 0, c),
-        row(t, 1, c),
-        row(t, 2, c),
-        row(t, 3, c),
-        row(t, 4, c),
-        row(t, 5, c),
-        row(t, 6, c),
-        row(t, 7, c),
-    ]
-}
-
 // A quarter of each entry, rounded down.
 fn quarters(a: &[i64; 8]) -> [i64; 8]
     requires { ⌜ Sized 8 (2 ^ 39) (now a) ⌝ }
@@ -75,12 +58,40 @@ fn quarters(a: &[i64; 8]) -> [i64; 8]
     r
 }
 
-// The doubled point of eight coefficients.
+// The doubled point of eight coefficients. Eight calls with a fixed row each, so that the compiler folds the table into sums.
 pub fn point_of(c: &[i64; 8]) -> [i64; 8]
     requires { ⌜ Sized 8 (2 ^ 32) (now c) ⌝ }
     ensures { λ r. ⌜ r ≡ pointOf (now (c .entry)) ⌝ }
 {
-    apply(&BASIS, c)
+    let t = &BASIS;
+    [
+        row(t, 0, c),
+        row(t, 1, c),
+        row(t, 2, c),
+        row(t, 3, c),
+        row(t, 4, c),
+        row(t, 5, c),
+        row(t, 6, c),
+        row(t, 7, c),
+    ]
+}
+
+// Four times the eight coefficients of a doubled point, in the same way.
+fn four_times(e: &[i64; 8]) -> [i64; 8]
+    requires { ⌜ Sized 8 (2 ^ 32) (now e) ⌝ }
+    ensures { λ r. ⌜ (r ≡ apply inverse (now (e .entry))) × Sized 8 (2 ^ 39) r ⌝ }
+{
+    let t = &INVERSE;
+    [
+        row(t, 0, e),
+        row(t, 1, e),
+        row(t, 2, e),
+        row(t, 3, e),
+        row(t, 4, e),
+        row(t, 5, e),
+        row(t, 6, e),
+        row(t, 7, e),
+    ]
 }
 
 // The eight coefficients of a doubled point.
@@ -88,6 +99,6 @@ pub fn coefficients(e: &[i64; 8]) -> [i64; 8]
     requires { ⌜ Sized 8 (2 ^ 32) (now e) ⌝ }
     ensures { λ r. ⌜ r ≡ coefficients (now (e .entry)) ⌝ }
 {
-    let four = apply(&INVERSE, e);
+    let four = four_times(e);
     quarters(&four)
 }

@@ -14,6 +14,7 @@ use lib.Seq.{take-all}
 use Rattle.integers.specs.Floor.{floorDiv, floorMod}
 use Rattle.integers.specs.Laws.Difference.{byD, ints, byD₂, byD₃}
 use Rattle.integers.specs.Laws.Floors.{floor-split, floor-unique}
+use Rattle.integers.specs.Laws.Loops.{by-entries}
 use Rattle.integers.specs.Laws.Sums.{dot-comm, dot-add, dot-scale, dot-add-r, dot-scale-r, dot-zeros, dot-bound}
 use Rattle.integers.specs.Laws.Tests.{and-true, sized-small}
 use Rattle.integers.specs.Vectors.{zeros, addV, scaleV, dot, Sized, small}
@@ -48,6 +49,12 @@ row-at (r ∷ t) e (suc k) h = row-at t (and-true (eqb (length r) 8 && small (2 
 
 pub table-small : (t : List (List ℤ)) → length t ≡ 8 → rowsSmall t ≡ true → Table8 t
 table-small t h e = record { long = h; rows = λ k l. row-at t e k (omega arith) }
+
+-- a table of eight rows by a vector, from its rows by it
+pub by-rows : (t : List (List ℤ)) (v : List ℤ) → length t ≡ 8 → {a b c d e f g h : ℤ} → a ≡ dot (getD t 0 []) v → b ≡ dot (getD t 1 []) v → c ≡ dot (getD t 2 []) v → d ≡ dot (getD t 3 []) v
+    → e ≡ dot (getD t 4 []) v → f ≡ dot (getD t 5 []) v → g ≡ dot (getD t 6 []) v → h ≡ dot (getD t 7 []) v → a ∷ b ∷ c ∷ d ∷ e ∷ f ∷ g ∷ h ∷ [] ≡ apply t v
+by-rows t v long p q r s u w x y =
+    ap₂ _∷_ p (ap₂ _∷_ q (ap₂ _∷_ r (ap₂ _∷_ s (ap₂ _∷_ u (ap₂ _∷_ w (ap₂ _∷_ x (ap₂ _∷_ y refl))))))) ∙ ap (map (λ (r : List ℤ). dot r v)) (sym (by-entries t [] 8 long))
 
 -- a table that the code takes, by a vector that it takes: sums of eight products
 pub apply-sized : (t : List (List ℤ)) (v : List ℤ) → Table8 t → Sized 8 (2 ^ 32) v → Sized 8 (2 ^ 39) (apply t v)
