@@ -43,6 +43,33 @@ module _ {A : Type 0} (n : ℕ) where
       go (suc i) f = let s : n + n * i ≡ n * suc i = omega arith in
           ap (λ (r : List (List A)). take n f ∷ r) (go i (drop n f) ∙ ap (λ (g : List A). cut n i (drop n f) ++ (take n g ∷ [])) (drop-drop (n * i) n f ∙ ap (λ (j : ℕ). drop j f) s))
 
+  -- part i of k
+  pub cut-at : (k i : ℕ) (f : List A) → i < k → getD (cut n k f) i [] ≡ take n (drop (n * i) f)
+  cut-at zero i f h = absurd (omega arith)
+  cut-at (suc k) zero f h = let z : 0 ≡ n * 0 = omega arith in ap (λ (j : ℕ). take n (drop j f)) z
+  cut-at (suc k) (suc i) f h = let s : n + n * i ≡ n * suc i = omega arith in
+      cut-at k i (drop n f) (omega arith) ∙ ap (take n) (drop-drop (n * i) n f ∙ ap (λ (j : ℕ). drop j f) s)
+
+-- the entry i of what f makes of a list
+pub map-at : {A B : Type 0} (f : A → B) (l : List A) (i : ℕ) (d : A) (e : B) → i < length l → getD (map f l) i e ≡ f (getD l i d)
+map-at f [] i d e h = absurd (omega arith)
+map-at f (x ∷ l) zero d e h = refl
+map-at f (x ∷ l) (suc i) d e h = map-at f l i d e (omega arith)
+
+-- parts of n that f makes, in one row, are found again, whatever follows the row
+module _ {A B : Type 0} (f : A → List B) (n : ℕ) (each : (x : A) → length (f x) ≡ n) where
+  pub cut-made : (l : List A) (rest : List B) → cut n (length l) (joined (map f l) ++ rest) ≡ map f l
+  cut-made [] rest = refl
+  cut-made (x ∷ l) rest = let row : List B = joined (map f l) ++ rest in
+      ap (cut n (suc (length l))) (append-assoc (f x) (joined (map f l)) rest)
+      ∙ ap₂ (λ (p r : List B). p ∷ cut n (length l) r) (take-at (f x) row n (each x)) (drop-at (f x) row n (each x))
+      ∙ ap (λ (r : List (List B)). f x ∷ r) (cut-made l rest)
+
+  -- and so is part i
+  pub part-made : (l : List A) (rest : List B) (i : ℕ) (d : A) → i < length l → take n (drop (n * i) (joined (map f l) ++ rest)) ≡ f (getD l i d)
+  part-made l rest i d h =
+      sym (cut-at n (length l) i (joined (map f l) ++ rest) h) ∙ ap (λ (r : List (List B)). getD r i []) (cut-made l rest) ∙ map-at f l i d [] h
+
 module _ {A : Type 0} where
   -- two rows of parts, joined
   pub joined-append : (a b : List (List A)) → joined (a ++ b) ≡ joined a ++ joined b
