@@ -7,6 +7,7 @@ pub mod Codes
 pub mod Least
 pub mod Asked
 pub mod Encode
+pub mod Fitting
 pub mod Encoded
 pub mod Decode
 pub mod Report
