@@ -11,3 +11,4 @@ pub mod Fitting
 pub mod Encoded
 pub mod Decode
 pub mod Report
+pub mod Recorded
