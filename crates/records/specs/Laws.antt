@@ -12,3 +12,4 @@ pub mod Encoded
 pub mod Decode
 pub mod Report
 pub mod Recorded
+pub mod Theorems
