@@ -13,3 +13,4 @@ pub mod Decode
 pub mod Report
 pub mod Recorded
 pub mod Theorems
+pub mod Blocks
