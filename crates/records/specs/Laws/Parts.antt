@@ -8,6 +8,7 @@ use native.Mathlib.Omega.{arith}
 use lib.ListN.{length, getD, take, drop, length-append, length-drop, drop-of-length-le}
 use lib.Seq.{take-all, take-suc, take-at, drop-at, drop-drop}
 use Rattle.layers.specs.Digits.{joined, cut}
+use Rattle.layers.specs.Laws.Loops.{write-in}
 
 -- a part ends where the next begins, which is not past the last part's end
 pub part-ends : (n i k : ℕ) → i < k → n * i + n ≤ n * k
@@ -95,14 +96,9 @@ module _ {A : Type 0} (w o : List A) (a : ℕ) where
   write-over b k h = let x : List A = w ++ drop a o in
       ap₂ (λ (f g : List A). f ++ b ++ g) (take-at w (drop a o) a h) (sym (drop-drop k a x) ∙ ap (drop k) (drop-at w (drop a o) a h) ∙ drop-drop k a o)
 
-  -- the same where the part from a to a + k was lent for it
-  pub write-lent : (b : List A) (k : ℕ) → length w ≡ a → let x = w ++ drop a o in take a x ++ (b ++ drop k (drop a x)) ≡ (w ++ b) ++ drop (a + k) o
-  write-lent b k h = let x : List A = w ++ drop a o in
-      sym (append-assoc (take a x) b (drop k (drop a x))) ∙ ap (λ (g : List A). take a x ++ b ++ g) (drop-drop k a x) ∙ write-over b k h
-
-  -- the same where all from a on was lent, and b written to its front
+  -- all from a on was lent, and b written to its front in place of k bytes
   pub write-rest : (b : List A) (k : ℕ) → length w ≡ a → let x = w ++ drop a o in
       take a x ++ ((b ++ drop k (take (length x - a) (drop a x))) ++ drop (length x - a) (drop a x)) ≡ (w ++ b) ++ drop (a + k) o
   write-rest b k h = let x : List A = w ++ drop a o in
       let none : drop (length x - a) (drop a x) ≡ [] = drop-of-length-le (drop a x) {i = length x - a} (simp length-drop (omega arith)) in
-      ap₂ (λ (f g : List A). take a x ++ ((b ++ drop k f) ++ g)) (rest-whole a x) none ∙ ap (λ (f : List A). take a x ++ f) (append-nil (b ++ drop k (drop a x))) ∙ write-lent b k h
+      ap₂ (λ (f g : List A). take a x ++ ((b ++ drop k f) ++ g)) (rest-whole a x) none ∙ ap (λ (f : List A). take a x ++ f) (append-nil (b ++ drop k (drop a x))) ∙ write-in w b o a k h
