@@ -7,6 +7,10 @@ pub mod Codes
 pub mod Least
 pub mod Asked
 pub mod Encode
+pub mod Fitting
 pub mod Encoded
 pub mod Decode
 pub mod Report
+pub mod Recorded
+pub mod Theorems
+pub mod Blocks

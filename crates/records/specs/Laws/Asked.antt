@@ -1,14 +1,16 @@
 -- What it says that settings, a step list and a code record were taken and not refused.
-use mathlib.Core.Path.{_≡_, refl, sym, _∙_, subst}
+use mathlib.Core.Path.{_≡_, refl, sym, _∙_, ap, ap₂, subst}
 use mathlib.Core.Bool.{Bool, true, false, cond}
 use mathlib.Core.List.{List, [], _∷_}
 use Prim.Native.Nat.{ℕ, zero, suc, _+_, _*_, _<_, _≤_}
 use native.Mathlib.Omega.{arith}
-use borrow.Author.Tests.{ltb-true}
+use borrow.Author.Tests.{ltb-true, lt-ltb}
 use lib.Dec.{ltb}
-use lib.IntN.{ℤ, natAbs}
+use lib.IntN.{ℤ, pos, natAbs}
 use lib.ListN.{length, getD, take, drop, length-take, length-drop}
 use lib.Seq.{drop-drop}
+use lib.Signed.{_<ℤ_}
+use Rattle.integers.specs.Vectors.{«at»}
 use Rattle.refusals.specs.declared.settings.Settings.{Settings}
 use Rattle.refusals.specs.declared.Refusal.the-variants.{Byte, Steps, Record}
 use Rattle.refusals.specs.declared.Verdict.{Verdict}
@@ -18,10 +20,12 @@ use Rattle.refusals.specs.Laws.Verdicts.{refused-never, unless-accepted, first-
 use Rattle.refusals.specs.Settings.{checkSettings}
 use Rattle.refusals.specs.Steps.{checkSteps}
 use Rattle.refusals.specs.Verdicts.{firstRefusal}
+use Rattle.blocks.specs.Laws.Sizes.{divisor-positive}
 use Rattle.blocks.specs.Limits.{UsedSteps}
 use Rattle.layers.specs.Answers.{checkBelow}
 use Rattle.layers.specs.Digits.{Below, cut}
 use Rattle.layers.specs.Laws.Asked.{checked-allowed, allowed-base, below-taken}
+use Rattle.layers.specs.Laws.Bases.{base-two}
 use Rattle.records.specs.Codes.{Coder, IsBlock, AreBlocks, blockSize, blocksIn, codeBlocks, checkFrame, checkBlock, checkBlocks}
 use Rattle.records.specs.Laws.Codes.{block-opened}
 use Rattle.records.specs.Laws.Frames.{Framed, record-framed}
@@ -47,6 +51,17 @@ coder-accepted c steps e = let s = first-accepted (checkSettings c) (checkSteps 
 pub used-steps : (l : List ℤ) → AllowedSteps l → UsedSteps l
 used-steps l h = record { few = omega (arith, h .few); each = λ i k. record { least = h .each i k .least; most = omega (arith, h .each i k .most) } }
 
+below-accepted : (q i : ℕ) (ds : List ℕ) → Below q ds → checkBelow q i ds ≡ Accepted
+below-accepted q i [] h = refl
+below-accepted q i (d ∷ ds) h = ap (λ (t : Bool). cond t (checkBelow q (suc i) ds) (Refused (Byte i))) (lt-ltb d q (h .0)) ∙ below-accepted q (suc i) ds (h .1)
+
+module _ (q : ℤ) (m : ℕ) (steps : List ℤ) (c : Coder q m steps) where
+  pub coder-positive : 0 < natAbs q
+  coder-positive = omega (arith, base-two q (c .base))
+
+  pub steps-positive : (i : ℕ) → i < length steps → pos 0 <ℤ «at» steps i
+  steps-positive i k = divisor-positive («at» steps i) (used-steps steps (c .listed) .each i k)
+
 module _ (steps q : ℕ) where
   -- a block
   block-taken : (m i : ℕ) (b : List ℕ) → length b ≡ blockSize m → checkBlock steps q i b ≡ Accepted → IsBlock steps q m b
@@ -56,6 +71,18 @@ module _ (steps q : ℕ) where
       go : (t : Bool) → (t ≡ true → getD b 0 0 < steps) → cond t (checkBelow q (suc i) (drop 1 b)) (Refused (Byte i)) ≡ Accepted → (getD b 0 0 < steps) × Below q (drop 1 b)
       go true f e = (f refl, below-taken q (suc i) (drop 1 b) e)
       go false f e = refused-never e
+
+  -- and the other way: what is a block is accepted
+  block-accepted : (m i : ℕ) (b : List ℕ) → IsBlock steps q m b → checkBlock steps q i b ≡ Accepted
+  block-accepted m i b h =
+      block-opened steps q i b (omega (arith, h .long)) ∙ ap (λ (t : Bool). cond t (checkBelow q (suc i) (drop 1 b)) (Refused (Byte i))) (lt-ltb (getD b 0 0) steps (h .first))
+      ∙ below-accepted q (suc i) (drop 1 b) (h .code .below)
+
+  -- and blocks one after the other
+  pub blocks-accepted : (m n i : ℕ) (l : List (List ℕ)) → ((j : ℕ) → j < length l → IsBlock steps q m (getD l j [])) → checkBlocks steps q n i l ≡ Accepted
+  blocks-accepted m n i [] h = refl
+  blocks-accepted m n i (b ∷ l) h =
+      ap₂ (λ (v w : Verdict). firstRefusal (v ∷ w ∷ [])) (block-accepted m i b (h 0 (omega arith))) (blocks-accepted m n (i + n) l (λ j k. h (suc j) (omega arith)))
 
   module _ (m : ℕ) where
     abbrev n : ℕ

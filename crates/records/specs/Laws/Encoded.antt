@@ -1,5 +1,5 @@
 -- The order of encoding, part by part, and what it says that the readings were taken.
-use mathlib.Core.Path.{_≡_, refl, sym, _∙_, ap, ap₂, subst}
+use mathlib.Core.Path.{_≡_, sym, _∙_, ap, ap₂}
 use mathlib.Core.List.{List, [], _∷_}
 use Prim.Native.Nat.{ℕ, _/_, _≤_}
 use borrow.Author.Tests.{leb-true}

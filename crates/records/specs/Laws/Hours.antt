@@ -1,14 +1,14 @@
 -- What it says of an hour, in either form, that its count and all its readings were taken.
-use mathlib.Core.Path.{_≡_, refl, sym, _∙_, ap, subst}
-use mathlib.Core.Bool.{true, _&&_}
+use mathlib.Core.Path.{_≡_, refl, sym, _∙_, ap}
+use mathlib.Core.Bool.{true}
 use mathlib.Core.List.{List, [], _∷_, map}
-use Prim.Native.Nat.{ℕ, zero, suc, _+_, _*_, _≤_}
+use Prim.Native.Nat.{ℕ, zero, suc, _+_, _*_}
 use native.Mathlib.Omega.{arith}
-use lib.IntN.{ℤ, natAbs}
+use lib.IntN.{ℤ}
 use lib.Ieee.{binary32, ofBits}
 use lib.ListN.{length, length-map}
 use Rattle.integers.specs.Laws.Loops.{range}
-use Rattle.integers.specs.Vectors.{«at», Bounded}
+use Rattle.integers.specs.Vectors.{Bounded}
 use Rattle.readings.specs.declared.Measured.{Measured}
 use Rattle.readings.specs.declared.Measured.the-variants as measured
 use Rattle.readings.specs.Laws.Taking.{units-in-range, units-same, float-in-range}
@@ -18,7 +18,7 @@ use Rattle.refusals.specs.declared.Refusal.the-variants.{Size, Record}
 use Rattle.refusals.specs.declared.Verdict.the-variants.{Accepted}
 use Rattle.refusals.specs.Laws.Verdicts.{refused-never, unless-accepted}
 use Rattle.refusals.specs.Limits.{blocksMost}
-use Rattle.records.specs.Frames.{wholeBlocks, goodRecord}
+use Rattle.records.specs.Frames.{wholeBlocks}
 use Rattle.records.specs.Laws.Frames.{record-whole}
 use Rattle.records.specs.Laws.Vectors.{readings-all}
 use Rattle.records.specs.Vectors.{Hour, unitsHour, fvecsHour, checkReadings, unitsTaken}

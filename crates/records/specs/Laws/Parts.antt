@@ -8,6 +8,7 @@ use native.Mathlib.Omega.{arith}
 use lib.ListN.{length, getD, take, drop, length-append, length-drop, drop-of-length-le}
 use lib.Seq.{take-all, take-suc, take-at, drop-at, drop-drop}
 use Rattle.layers.specs.Digits.{joined, cut}
+use Rattle.layers.specs.Laws.Loops.{write-in}
 
 -- a part ends where the next begins, which is not past the last part's end
 pub part-ends : (n i k : ℕ) → i < k → n * i + n ≤ n * k
@@ -43,6 +44,33 @@ module _ {A : Type 0} (n : ℕ) where
       go (suc i) f = let s : n + n * i ≡ n * suc i = omega arith in
           ap (λ (r : List (List A)). take n f ∷ r) (go i (drop n f) ∙ ap (λ (g : List A). cut n i (drop n f) ++ (take n g ∷ [])) (drop-drop (n * i) n f ∙ ap (λ (j : ℕ). drop j f) s))
 
+  -- part i of k
+  pub cut-at : (k i : ℕ) (f : List A) → i < k → getD (cut n k f) i [] ≡ take n (drop (n * i) f)
+  cut-at zero i f h = absurd (omega arith)
+  cut-at (suc k) zero f h = let z : 0 ≡ n * 0 = omega arith in ap (λ (j : ℕ). take n (drop j f)) z
+  cut-at (suc k) (suc i) f h = let s : n + n * i ≡ n * suc i = omega arith in
+      cut-at k i (drop n f) (omega arith) ∙ ap (take n) (drop-drop (n * i) n f ∙ ap (λ (j : ℕ). drop j f) s)
+
+-- the entry i of what f makes of a list
+pub map-at : {A B : Type 0} (f : A → B) (l : List A) (i : ℕ) (d : A) (e : B) → i < length l → getD (map f l) i e ≡ f (getD l i d)
+map-at f [] i d e h = absurd (omega arith)
+map-at f (x ∷ l) zero d e h = refl
+map-at f (x ∷ l) (suc i) d e h = map-at f l i d e (omega arith)
+
+-- parts of n that f makes, in one row, are found again, whatever follows the row
+module _ {A B : Type 0} (f : A → List B) (n : ℕ) (each : (x : A) → length (f x) ≡ n) where
+  pub cut-made : (l : List A) (rest : List B) → cut n (length l) (joined (map f l) ++ rest) ≡ map f l
+  cut-made [] rest = refl
+  cut-made (x ∷ l) rest = let row : List B = joined (map f l) ++ rest in
+      ap (cut n (suc (length l))) (append-assoc (f x) (joined (map f l)) rest)
+      ∙ ap₂ (λ (p r : List B). p ∷ cut n (length l) r) (take-at (f x) row n (each x)) (drop-at (f x) row n (each x))
+      ∙ ap (λ (r : List (List B)). f x ∷ r) (cut-made l rest)
+
+  -- and so is part i
+  pub part-made : (l : List A) (rest : List B) (i : ℕ) (d : A) → i < length l → take n (drop (n * i) (joined (map f l) ++ rest)) ≡ f (getD l i d)
+  part-made l rest i d h =
+      sym (cut-at n (length l) i (joined (map f l) ++ rest) h) ∙ ap (λ (r : List (List B)). getD r i []) (cut-made l rest) ∙ map-at f l i d [] h
+
 module _ {A : Type 0} where
   -- two rows of parts, joined
   pub joined-append : (a b : List (List A)) → joined (a ++ b) ≡ joined a ++ joined b
@@ -68,14 +96,9 @@ module _ {A : Type 0} (w o : List A) (a : ℕ) where
   write-over b k h = let x : List A = w ++ drop a o in
       ap₂ (λ (f g : List A). f ++ b ++ g) (take-at w (drop a o) a h) (sym (drop-drop k a x) ∙ ap (drop k) (drop-at w (drop a o) a h) ∙ drop-drop k a o)
 
-  -- the same where the part from a to a + k was lent for it
-  pub write-lent : (b : List A) (k : ℕ) → length w ≡ a → let x = w ++ drop a o in take a x ++ (b ++ drop k (drop a x)) ≡ (w ++ b) ++ drop (a + k) o
-  write-lent b k h = let x : List A = w ++ drop a o in
-      sym (append-assoc (take a x) b (drop k (drop a x))) ∙ ap (λ (g : List A). take a x ++ b ++ g) (drop-drop k a x) ∙ write-over b k h
-
-  -- the same where all from a on was lent, and b written to its front
+  -- all from a on was lent, and b written to its front in place of k bytes
   pub write-rest : (b : List A) (k : ℕ) → length w ≡ a → let x = w ++ drop a o in
       take a x ++ ((b ++ drop k (take (length x - a) (drop a x))) ++ drop (length x - a) (drop a x)) ≡ (w ++ b) ++ drop (a + k) o
   write-rest b k h = let x : List A = w ++ drop a o in
       let none : drop (length x - a) (drop a x) ≡ [] = drop-of-length-le (drop a x) {i = length x - a} (simp length-drop (omega arith)) in
-      ap₂ (λ (f g : List A). take a x ++ ((b ++ drop k f) ++ g)) (rest-whole a x) none ∙ ap (λ (f : List A). take a x ++ f) (append-nil (b ++ drop k (drop a x))) ∙ write-lent b k h
+      ap₂ (λ (f g : List A). take a x ++ ((b ++ drop k f) ++ g)) (rest-whole a x) none ∙ ap (λ (f : List A). take a x ++ f) (append-nil (b ++ drop k (drop a x))) ∙ write-in w b o a k h

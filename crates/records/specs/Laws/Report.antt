@@ -9,17 +9,15 @@ use lib.Dec.{eqb}
 use lib.IntN.{ℤ, pos, natAbs, _*ℤ_, _-ℤ_}
 use lib.ListN.{length, getD, drop}
 use lib.Signed.{_<ℤ_}
-use Rattle.integers.specs.Laws.Linear.{Z, abs-parts}
 use Rattle.integers.specs.Laws.Loops.{range}
 use Rattle.integers.specs.Laws.Sums.{at-scale, length-scaleV}
 use Rattle.integers.specs.Vectors.{«at», scaleV, Bounded}
 use Rattle.blocks.specs.Limits.{Block}
-use Rattle.blocks.specs.Laws.Sizes.{divisor-positive}
 use Rattle.blocks.specs.Laws.Theorems.{block-digits, block-decodes}
 use Rattle.blocks.specs.Trials.{firstFitting, blockCode}
 use Rattle.layers.specs.Digits.{IsCode}
 use Rattle.layers.specs.E8.{e8, nearest}
-use Rattle.layers.specs.Laws.Asked.{checked-allowed, allowed-base}
+use Rattle.layers.specs.Laws.Bases.{base-two}
 use Rattle.layers.specs.Laws.E8.{decode-in8, decode-times8}
 use Rattle.readings.specs.declared.Reading.{Reading}
 use Rattle.readings.specs.Fractions.{Exactly}
@@ -28,10 +26,9 @@ use Rattle.readings.specs.Report.{Reportable, reportReading}
 use Rattle.readings.specs.Taking.{unitsMost, measureUnits}
 use Rattle.refusals.specs.declared.settings.Settings.{Settings}
 use Rattle.refusals.specs.declared.Refusal.{Refusal}
-use Rattle.refusals.specs.declared.Refusal.the-variants.{Steps, Size}
+use Rattle.refusals.specs.declared.Refusal.the-variants.{Size}
 use Rattle.refusals.specs.declared.Verdict.{Verdict}
 use Rattle.refusals.specs.declared.Verdict.the-variants.{Accepted, Refused}
-use Rattle.refusals.specs.Laws.Allowed.{Allowed, steps-allowed}
 use Rattle.refusals.specs.Laws.Verdicts.{refused-never, unless-accepted, first-accepted, first-last, first-append}
 use Rattle.refusals.specs.Settings.{checkSettings}
 use Rattle.refusals.specs.Steps.{checkSteps}
@@ -39,7 +36,7 @@ use Rattle.refusals.specs.Verdicts.{unless, firstRefusal}
 use Rattle.records.specs.Codes.{Coder}
 use Rattle.records.specs.Decode.{stepOf, wholePoint}
 use Rattle.records.specs.Encode.{checkFits}
-use Rattle.records.specs.Laws.Asked.{used-steps}
+use Rattle.records.specs.Laws.Asked.{CoderTaken, coder-taken, coder-positive, steps-positive}
 use Rattle.records.specs.Laws.Encode.{fits-none}
 use Rattle.records.specs.Laws.Hours.{units-sound, units-small, units-taken}
 use Rattle.records.specs.Report.{checkReport, blockReport, reported, report, checkGiven, Reportables}
@@ -47,8 +44,7 @@ use Rattle.records.specs.Vectors.{unitsHour, checkReadings}
 
 -- what was given and not refused: allowed settings, steps to code with, and a block
 pub record Given (c : Settings) (steps x : List ℤ) : Type 0 where
-  pub allowed : Allowed (c .q) (c .m)
-  pub coder : Coder (c .q) (natAbs (c .m)) steps
+  pub taken : CoderTaken c steps
   pub block : Block x
 
 module _ (c : Settings) (steps x : List ℤ) where
@@ -64,10 +60,9 @@ module _ (c : Settings) (steps x : List ℤ) where
   pub given-taken : checkGiven c steps x ≡ Accepted → Given c steps x
   given-taken e =
       let s = first-accepted (checkSettings c) (checkSteps 0 steps ∷ eight ∷ taken ∷ []) e in let l = first-accepted (checkSteps 0 steps) (eight ∷ taken ∷ []) (s .1) in
-      let n = first-accepted eight (taken ∷ []) (l .1) in let r = first-accepted taken [] (n .1) in let a = checked-allowed c (s .0) in
+      let n = first-accepted eight (taken ∷ []) (l .1) in let r = first-accepted taken [] (n .1) in
       record {
-        allowed = a;
-        coder = record { base = allowed-base (c .q) (c .m) a; few = a .m-most; power = a .power; listed = steps-allowed steps (unless-accepted _ (Steps 0) (l .0)) };
+        taken = coder-taken c 0 steps (s .0) (l .0);
         block = record { long = eqb-true (length x) 8 (unless-accepted _ (Size 0) (n .0)); small = subst (Bounded unitsMost) (units-taken 0 x (r .0)) (units-small (map measureUnits x) (units-sound x .ranged)) };
       }
 
@@ -93,14 +88,11 @@ module _ (q : ℤ) (m : ℕ) (steps : List ℤ) (coder : Coder q m steps) (X : L
   abbrev e : List ℤ
   e = wholePoint (natAbs q) m b
 
-  two : 2 ≤ natAbs q
-  two = omega (arith, Z, abs-parts q, coder .base .least)
-
   q> : 0 < natAbs q
-  q> = omega (arith, two)
+  q> = coder-positive q m steps coder
 
   positive : (i : ℕ) → i < length steps → pos 0 <ℤ «at» steps i
-  positive i k = divisor-positive («at» steps i) (used-steps steps (coder .listed) .each i k)
+  positive = steps-positive q m steps coder
 
   -- its bytes are m layers of digits
   pub block-code : IsCode 8 (natAbs q) m (drop 1 b)
@@ -119,7 +111,7 @@ module _ (q : ℤ) (m : ℕ) (steps : List ℤ) (coder : Coder q m steps) (X : L
     point-long = decode-in8 (natAbs q) m q> _ block-code .long;
     each = λ i k. record {
       taken = block .small i;
-      decoded = decode-times8 (natAbs q) m q> _ block-code two (coder .power) s most i;
+      decoded = decode-times8 (natAbs q) m q> _ block-code (base-two q (coder .base)) (coder .power) s most i;
       difference = omega (arith, close i k, most);
     };
   }
@@ -176,5 +168,5 @@ module _ (c : Settings) (steps x : List ℤ) (ok : checkReport c steps x ≡ Acc
   pub report-exact : (i : ℕ) (d : Reading) → i < 8 → ExactReading (getD (report c steps x .readings) i d) («at» x i) (stepOf steps bytes) («at» (wholePoint q m bytes) i)
   report-exact i d h =
       let X : ℤ = «at» x i in let s : ℤ = stepOf steps bytes in let e : ℤ = «at» (wholePoint q m bytes) i in let g = given-taken c steps x (checked .0) in
-      let can : Reportable X s e = block-reportable (c .q) m steps (g .coder) x (g .block) fits .each i h in
+      let can : Reportable X s e = block-reportable (c .q) m steps (g .taken .coder) x (g .block) fits .each i h in
       subst (λ (r : Reading). ExactReading r X s e) (sym (entry i d h)) (record { taken = report-taken X s e can; decoded = report-decoded X s e can; difference = report-difference X s e can })

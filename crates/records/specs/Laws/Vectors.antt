@@ -1,14 +1,15 @@
 -- What a walk over readings has found, and what it says that all of them were readings.
 use mathlib.Core.Path.{_≡_, refl, sym, _∙_, ap, ap₂}
 use mathlib.Core.List.{List, [], _∷_, _++_, map, append-nil}
-use Prim.Native.Nat.{ℕ, suc, _+_, _<_}
+use Prim.Native.Nat.{ℕ, zero, suc, _+_, _<_}
 use native.Mathlib.Numerals.{add-one}
 use native.Mathlib.Omega.{arith}
 use lib.IntN.{ℤ}
-use lib.ListN.{length, take, drop, set, length-append, take-append-drop}
+use lib.ListN.{length, getD, take, drop, set, length-append, take-append-drop}
 use lib.Seq.{append-snoc, drop-drop, drop-set-lt, take-suc-set}
 use Rattle.readings.specs.declared.Measured.{Measured}
 use Rattle.readings.specs.declared.Measured.the-variants as measured
+use Rattle.refusals.specs.declared.Refusal.{Refusal}
 use Rattle.refusals.specs.declared.Refusal.the-variants.{Missing, OutOfRange}
 use Rattle.refusals.specs.declared.Verdict.the-variants.{Accepted, Refused}
 use Rattle.refusals.specs.Laws.Verdicts.{refused-never}
@@ -25,6 +26,20 @@ module _ (i : ℕ) (r : Measured) (l : List Measured) where
 
   pub reading-beyond : r ≡ measured.OutOfRange → (checkReadings i (r ∷ l) ≡ Refused (OutOfRange i)) × (unitsTaken (r ∷ l) ≡ [])
   reading-beyond e = rw e (refl, refl)
+
+-- the first that is none is refused by its index, whatever follows: r is refused by name
+module _ (r : Measured) (name : ℕ → Refusal) (none : (p : ℕ) (l : List Measured) → checkReadings p (r ∷ l) ≡ Refused (name p)) where
+  first-none : (p i : ℕ) (l : List Measured) (d : Measured) → i < length l → getD l i d ≡ r → ((j : ℕ) → j < i → (X : ℤ) × (getD l j d ≡ measured.Units X)) → checkReadings p l ≡ Refused (name (p + i))
+  first-none p i [] d h e before = absurd (omega arith)
+  first-none p zero (x ∷ l) d h e before = let z : p ≡ p + 0 = omega arith in ap (λ (x : Measured). checkReadings p (x ∷ l)) e ∙ none p l ∙ ap (λ (j : ℕ). Refused (name j)) z
+  first-none p (suc i) (x ∷ l) d h e before = let s : suc p + i ≡ p + suc i = omega arith in let k = before 0 (omega arith) in
+      reading-taken p x l (k .0) (k .1) .0 ∙ first-none (suc p) i l d (omega arith) e (λ j h. before (suc j) (omega arith)) ∙ ap (λ (j : ℕ). Refused (name j)) s
+
+pub first-missing : (i : ℕ) (l : List Measured) (d : Measured) → i < length l → getD l i d ≡ measured.Missing → ((j : ℕ) → j < i → (X : ℤ) × (getD l j d ≡ measured.Units X)) → checkReadings 0 l ≡ Refused (Missing i)
+first-missing i l d h e before = let z : 0 + i ≡ i = omega arith in first-none measured.Missing Missing (λ p l. refl) 0 i l d h e before ∙ ap (λ (j : ℕ). Refused (Missing j)) z
+
+pub first-beyond : (i : ℕ) (l : List Measured) (d : Measured) → i < length l → getD l i d ≡ measured.OutOfRange → ((j : ℕ) → j < i → (X : ℤ) × (getD l j d ≡ measured.Units X)) → checkReadings 0 l ≡ Refused (OutOfRange i)
+first-beyond i l d h e before = let z : 0 + i ≡ i = omega arith in first-none measured.OutOfRange OutOfRange (λ p l. refl) 0 i l d h e before ∙ ap (λ (j : ℕ). Refused (OutOfRange j)) z
 
 -- where nothing is refused every reading is taken
 pub readings-all : (i : ℕ) (l : List Measured) → checkReadings i l ≡ Accepted → l ≡ map measured.Units (unitsTaken l)

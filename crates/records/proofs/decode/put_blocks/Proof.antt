@@ -11,9 +11,10 @@ use mir.Syntax.{w64}
 use mir.Val.{toZ}
 use mir.Facts.{toZ-ofZ}
 use Rattle.layers.specs.Digits.{joined, cut}
+use Rattle.layers.specs.Laws.Loops.{write-in}
 use Rattle.records.specs.Codes.{IsBlock, blockSize}
 use Rattle.records.specs.Decode.{decodedBytes}
-use Rattle.records.specs.Laws.Parts.{part-ends, cut-more, joined-more, front-long, write-lent}
+use Rattle.records.specs.Laws.Parts.{part-ends, cut-more, joined-more, front-long}
 use Rattle.records.proofs.decode.put_blocks.Statement.{statement}
 use Rattle.records.proofs.decode.put_blocks.Tie as tie
 
@@ -95,7 +96,7 @@ module _ (c : tie.After-put-block Inv-loop μ-loop) where
       let g = decodedBytes (q t) (m t) (steps t) in let a : ℕ = 32 * i t in let whole : a + 32 - a ≡ 32 = omega arith in let next : a + 32 ≡ 32 * (i t + 1) = omega arith in
       ap₂ (λ (k : ℕ) (p : List ℕ). putMid a k (t .loop .out) p) whole part-is
       ∙ ap (λ (o : List ℕ). take a o ++ (g (block b) ++ drop 32 (drop a o))) (out-is t)
-      ∙ write-lent (written t) (found t) a (g (block b)) 32 (front-long (written t) (found t) a (t .loop .out) (out-is t) (t .loop .inv .1) (omega (arith, room b)))
+      ∙ write-in (written t) (g (block b)) (found t) a 32 (front-long (written t) (found t) a (t .loop .out) (out-is t) (t .loop .inv .1) (omega (arith, room b)))
       ∙ ap₂ (λ (w : List ℕ) (k : ℕ). w ++ drop k (found t)) (sym (ap (λ (l : List (List ℕ)). joined (map g l)) (cut-more (blockSize (m t)) (i t) (body t)) ∙ joined-more g (cut (blockSize (m t)) (i t) (body t)) (block b))) next
 
 block-size-requires : tie.Need-block-size-requires Inv-loop μ-loop

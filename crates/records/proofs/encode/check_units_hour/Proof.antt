@@ -1,12 +1,12 @@
 -- `check_units_hour` is the list of checks, one after the other; the first two are made as one.
 use mathlib.Core.Path.{_≡_, refl, sym, _∙_, ap, ap₂}
 use mathlib.Core.Bool.{Bool}
-use mathlib.Core.List.{List, [], _∷_}
+use mathlib.Core.List.{[], _∷_}
 use Prim.Native.Nat.{ℕ, _/_, _≤_}
 use native.Mathlib.Omega.{arith}
 use borrow.Author.Needs.{needs}
 use lib.Dec.{leb}
-use lib.IntN.{ℤ, natAbs}
+use lib.IntN.{natAbs}
 use lib.ListN.{length, length-map}
 use Rattle.readings.specs.Taking.{measureUnits}
 use Rattle.refusals.specs.declared.Refusal.the-variants.{Size}

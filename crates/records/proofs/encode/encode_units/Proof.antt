@@ -1,5 +1,5 @@
 -- `encode_units` answers what is refused before coding, and else what the core answers on the units themselves.
-use mathlib.Core.Path.{_≡_, sym, _∙_, ap, ap₂, subst, subst₂}
+use mathlib.Core.Path.{_≡_, sym, _∙_, ap₂, subst, subst₂}
 use mathlib.Core.List.{List, [], _∷_}
 use Prim.Native.Nat.{ℕ, _/_, _≤_}
 use borrow.Author.Needs.{needs}

@@ -1,7 +1,7 @@
 -- `put_record` codes the blocks aside, and writes the dimension and the blocks only where each has a step that fits.
-use mathlib.Core.Path.{_≡_, refl, sym, _∙_, ap, ap₂, subst}
+use mathlib.Core.Path.{_≡_, refl, sym, _∙_, ap, ap₂}
 use mathlib.Core.List.{List, _++_}
-use Prim.Native.Nat.{ℕ, _+_, _*_, _-_, _/_, _^_, _<_, _≤_}
+use Prim.Native.Nat.{ℕ, _+_, _*_, _-_, _/_, _≤_}
 use native.Mathlib.Nat.{mul-le-mul}
 use native.Mathlib.Omega.{arith}
 use borrow.Author.Needs.{needs}
@@ -12,7 +12,6 @@ use lib.Seq.{take-at}
 use mir.Syntax.{w64}
 use mir.Val.{SFits, toZ, ofZ}
 use mir.Facts.{toZ-ofZ}
-use Rattle.integers.specs.Vectors.{Sized}
 use Rattle.readings.specs.Words.{bytesOf}
 use Rattle.refusals.specs.declared.Verdict.{Verdict}
 use Rattle.refusals.specs.declared.Verdict.the-variants.{Accepted}
@@ -22,7 +21,7 @@ use Rattle.records.specs.Encode.{checkFits, codeBytes, codeRecord}
 use Rattle.records.specs.Vectors.{inBlocks}
 use Rattle.records.specs.Laws.Asked.{used-steps}
 use Rattle.records.specs.Laws.Encode.{codeBytes-long, codeRecord-long}
-use Rattle.records.specs.Laws.Parts.{cut-long, rest-whole, write-rest}
+use Rattle.records.specs.Laws.Parts.{cut-long, write-rest}
 use Rattle.records.specs.Laws.Frames.{Whole, blocks-whole}
 use Rattle.records.proofs.encode.put_record.Statement.{statement}
 use Rattle.records.proofs.encode.put_record.Tie as tie

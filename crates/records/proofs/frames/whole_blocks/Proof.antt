@@ -1,5 +1,4 @@
 -- `whole_blocks` is the rule test by test.
-use mathlib.Core.Path.{_≡_}
 use Prim.Native.Nat.{_/_, _%_}
 use native.Mathlib.Omega.{arith}
 use borrow.Author.Needs.{needs}

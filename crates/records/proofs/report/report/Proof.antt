@@ -46,10 +46,10 @@ enum-told : tie.Need-enum-told
 enum-told c = search needs
 
 base-requires : tie.Need-base-requires
-base-requires c κs = given c .allowed
+base-requires c κs = given c .taken .allowed
 
 layers-requires : tie.Need-layers-requires
-layers-requires c κs = given (c .before) .allowed
+layers-requires c κs = given (c .before) .taken .allowed
 
 -- q and M, as the block is given them
 module _ (c : tie.After-layers) where
@@ -61,7 +61,7 @@ module _ (c : tie.After-layers) where
 
 report-block-requires : tie.Need-report-block-requires
 report-block-requires c κs = let t = told c in
-    simp (toZ-ofZ, fits c) (given t .block, subst₂ (λ (q : ℤ) (m : ℕ). Coder q m (steps t)) (sym (c .before .base .ensures)) (sym (c .layers .ensures)) (given t .coder))
+    simp (toZ-ofZ, fits c) (given t .block, subst₂ (λ (q : ℤ) (m : ℕ). Coder q m (steps t)) (sym (c .before .base .ensures)) (sym (c .layers .ensures)) (given t .taken .coder))
 
 returns : tie.Need-returns
 unfolding report
