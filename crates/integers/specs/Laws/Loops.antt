@@ -34,10 +34,26 @@ module _ {A B : Type 0} (f : A → B) (n : ℕ) (a : List A) (long : length a �
 
 -- ---- a list by its entries
 
+-- the entry i of what f makes of a list
+pub map-at : {A B : Type 0} (f : A → B) (l : List A) (i : ℕ) (d : A) (e : B) → i < length l → getD (map f l) i e ≡ f (getD l i d)
+map-at f [] i d e h = absurd (omega arith)
+map-at f (x ∷ l) zero d e h = refl
+map-at f (x ∷ l) (suc i) d e h = map-at f l i d e (omega arith)
+
 -- i, i + 1 .. i + n - 1
 abbrev pub range : ℕ → ℕ → List ℕ
 range i zero = []
 range i (suc n) = i ∷ range (suc i) n
+
+pub range-long : (i n : ℕ) → length (range i n) ≡ n
+range-long i zero = refl
+range-long i (suc n) = ap suc (range-long (suc i) n)
+
+-- the entry j of what f makes of a range
+pub range-at : {A : Type 0} (f : ℕ → A) (i n j : ℕ) (d : A) → j < n → getD (map f (range i n)) j d ≡ f (i + j)
+range-at f i zero j d h = absurd (omega arith)
+range-at f i (suc n) zero d h = let e : i ≡ i + 0 = omega arith in ap f e
+range-at f i (suc n) (suc j) d h = let e : suc i + j ≡ i + suc j = omega arith in range-at f (suc i) n j d (omega arith) ∙ ap f e
 
 module _ {A : Type 0} where
   shift : (f : ℕ → A) (i n : ℕ) → map f (range (suc i) n) ≡ map (λ (k : ℕ). f (suc k)) (range i n)

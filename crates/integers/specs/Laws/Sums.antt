@@ -8,6 +8,7 @@ use lib.IntN.{ℤ, pos, negℤ, natAbs, _+ℤ_, _*ℤ_, +ℤ-idl, +ℤ-idr, +ℤ
 use lib.ListN.{length, getD, take, drop, set, length-map, length-set, length-replicate, length-take, length-drop}
 use lib.Seq.{ext-getD}
 use Rattle.integers.specs.Laws.Difference.{byD, ints, byD₂, byD₃, byD₄}
+use Rattle.integers.specs.Laws.Loops.{map-at}
 use Rattle.integers.specs.Laws.Sizes.{abs-add, abs-mul}
 use Rattle.integers.specs.Vectors.{«at», zeros, addV, negV, scaleV, sumV, dot, Bounded, Sized, small}
 
@@ -37,9 +38,7 @@ at-zeros (suc n) (suc i) = at-zeros n i
 pub ruleset entries = (at-add, at-scale, at-neg, at-zeros)
 
 pub at-map : (f : ℤ → ℤ) (a : List ℤ) (i : ℕ) → i < length a → «at» (map f a) i ≡ f («at» a i)
-at-map f [] i h = absurd (omega arith)
-at-map f (x ∷ a) zero h = refl
-at-map f (x ∷ a) (suc i) h = at-map f a i (omega arith)
+at-map f a i h = map-at f a i (pos 0) (pos 0) h
 
 pub length-addV : (a b : List ℤ) → length (addV a b) ≡ max (length a) (length b)
 length-addV [] b = omega arith

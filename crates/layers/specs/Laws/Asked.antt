@@ -1,10 +1,10 @@
 -- What it says that a point, or digits, were taken and not refused.
-use mathlib.Core.Path.{_≡_, refl, subst}
+use mathlib.Core.Path.{_≡_, refl, _∙_, ap, subst}
 use mathlib.Core.Bool.{Bool, true, false, _&&_, cond}
 use mathlib.Core.List.{List, [], _∷_}
 use Prim.Native.Nat.{ℕ, suc, _*_, _-_, _^_, _<_, _≤_}
 use native.Mathlib.Omega.{arith}
-use borrow.Author.Tests.{eqb-true, leb-true}
+use borrow.Author.Tests.{eqb-true, leb-true, lt-ltb}
 use lib.Dec.{eqb, leb, ltb}
 use lib.IntN.{ℤ, natAbs}
 use lib.ListN.{length}
@@ -65,6 +65,11 @@ below-taken q i (d ∷ ds) k = go (ltb d q) (λ e. leb-true (suc d) q e) (λ h. 
     go : (b : Bool) → (b ≡ true → d < q) → (checkBelow q (suc i) ds ≡ Accepted → Below q ds) → cond b (checkBelow q (suc i) ds) (Refused (Byte i)) ≡ Accepted → (d < q) × Below q ds
     go true f rest k = (f refl, rest k)
     go false f rest k = refused-never k
+
+-- and digits below q are accepted
+pub below-accepted : (q i : ℕ) (ds : List ℕ) → Below q ds → checkBelow q i ds ≡ Accepted
+below-accepted q i [] h = refl
+below-accepted q i (d ∷ ds) h = ap (λ (t : Bool). cond t (checkBelow q (suc i) ds) (Refused (Byte i))) (lt-ltb d q (h .0)) ∙ below-accepted q (suc i) ds (h .1)
 
 pub record DigitsTaken (c : Settings) (ds : List ℕ) : Type 0 where
   pub allowed : Allowed (c .q) (c .m)

@@ -41,6 +41,10 @@ module _ (b : List ℕ) (i w : ℕ) (room : i + 4 ≤ length b) where
       let first : getD (putWord b i w) i 0 ≡ w % 256 = rw add-zero at (byte 0) in
       rw (first, byte 1, byte 2, byte 3) (digits w h)
 
+-- so is one at the front, whatever follows it
+pub word-first : (w : ℕ) (b : List ℕ) → w < 2 ^ 32 → wordAt (bytesOf w ++ b) 0 ≡ w
+word-first w b h = word-put (bytesOf w ++ b) 0 w (omega arith) h
+
 -- a float that was written as its pattern is read back, and so is a decoded reading
 pub float-put : (b : List ℕ) (i : ℕ) (v : Float) → i + 4 ≤ length b → T (fits binary32 v) → ofBits binary32 (wordAt (putWord b i (toBits binary32 v)) i) ≡ v
 float-put b i v room h = rw (word-put b i (toBits binary32 v) room (toBits-lt binary32 v h)) (ofBits-toBits binary32 v h)

@@ -24,7 +24,7 @@ use Rattle.blocks.specs.Laws.Sizes.{divisor-positive}
 use Rattle.blocks.specs.Limits.{UsedSteps}
 use Rattle.layers.specs.Answers.{checkBelow}
 use Rattle.layers.specs.Digits.{Below, cut}
-use Rattle.layers.specs.Laws.Asked.{checked-allowed, allowed-base, below-taken}
+use Rattle.layers.specs.Laws.Asked.{checked-allowed, allowed-base, below-taken, below-accepted}
 use Rattle.layers.specs.Laws.Bases.{base-two}
 use Rattle.records.specs.Codes.{Coder, IsBlock, AreBlocks, blockSize, blocksIn, codeBlocks, checkFrame, checkBlock, checkBlocks}
 use Rattle.records.specs.Laws.Codes.{block-opened}
@@ -50,10 +50,6 @@ coder-accepted c steps e = let s = first-accepted (checkSettings c) (checkSteps 
 -- such a list is one that blocks are coded with
 pub used-steps : (l : List ℤ) → AllowedSteps l → UsedSteps l
 used-steps l h = record { few = omega (arith, h .few); each = λ i k. record { least = h .each i k .least; most = omega (arith, h .each i k .most) } }
-
-below-accepted : (q i : ℕ) (ds : List ℕ) → Below q ds → checkBelow q i ds ≡ Accepted
-below-accepted q i [] h = refl
-below-accepted q i (d ∷ ds) h = ap (λ (t : Bool). cond t (checkBelow q (suc i) ds) (Refused (Byte i))) (lt-ltb d q (h .0)) ∙ below-accepted q (suc i) ds (h .1)
 
 module _ (q : ℤ) (m : ℕ) (steps : List ℤ) (c : Coder q m steps) where
   pub coder-positive : 0 < natAbs q

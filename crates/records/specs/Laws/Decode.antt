@@ -1,5 +1,5 @@
 -- What it says that a record was taken for decoding: its readings are exact.
-use mathlib.Core.Path.{_≡_, refl, _∙_, ap}
+use mathlib.Core.Path.{_≡_, ap}
 use mathlib.Core.Bool.{Bool, true}
 use mathlib.Core.List.{List, [], _∷_}
 use Prim.Native.Nat.{ℕ, _<_, _≤_}
@@ -12,11 +12,11 @@ use Rattle.refusals.specs.declared.settings.Settings.{Settings}
 use Rattle.refusals.specs.declared.Refusal.the-variants.{Size, Record}
 use Rattle.refusals.specs.declared.Verdict.{Verdict}
 use Rattle.refusals.specs.declared.Verdict.the-variants.{Accepted}
-use Rattle.refusals.specs.Laws.Verdicts.{unless-accepted, first-accepted}
+use Rattle.refusals.specs.Laws.Verdicts.{unless-accepted, first-accepted, first-all}
 use Rattle.refusals.specs.Limits.{blocksMost}
 use Rattle.refusals.specs.Settings.{checkSettings}
 use Rattle.refusals.specs.Steps.{checkSteps}
-use Rattle.refusals.specs.Verdicts.{unless, firstRefusal}
+use Rattle.refusals.specs.Verdicts.{unless}
 use Rattle.layers.specs.Laws.Bases.{base-two}
 use Rattle.layers.specs.Laws.E8.{decode-in8, decode-times8}
 use Rattle.records.specs.Codes.{Coder, IsBlock, blockSize, blocksIn, codeBlocks, checkFrame, checkBlocks}
@@ -52,16 +52,6 @@ decode-taken c steps b room e =
       input = record-taken (length steps) q m 1 blocksMost 0 0 b (f .0) (d .0);
       fits = leb-true (fvecsLength (blocksIn m b)) room (unless-accepted _ (Size 1) (r .0));
     }
-
--- each of a list of checks accepts
-abbrev Accepting : List Verdict → Type 0
-Accepting [] = Unit {0}
-Accepting (v ∷ l) = (v ≡ Accepted) × Accepting l
-
--- then so does the list
-first-all : (l : List Verdict) → Accepting l → firstRefusal l ≡ Accepted
-first-all [] h = refl
-first-all (v ∷ l) h = ap (λ (v : Verdict). firstRefusal (v ∷ l)) (h .0) ∙ first-all l (h .1)
 
 -- and the other way: where nothing is at fault decoding is accepted
 pub decode-accepted : (c : Settings) (steps : List ℤ) (b : List ℕ) (room : ℕ) → let m = natAbs (c .m) in checkSettings c ≡ Accepted → checkSteps 0 steps ≡ Accepted → goodRecord 1 (blockSize m) 1 blocksMost b ≡ true

@@ -2,12 +2,12 @@
 use mathlib.Core.Path.{_≡_, refl, sym, _∙_, ap}
 use mathlib.Core.Bool.{true}
 use mathlib.Core.List.{List, [], _∷_, map}
-use Prim.Native.Nat.{ℕ, zero, suc, _+_, _*_}
+use Prim.Native.Nat.{ℕ, zero, suc, _+_, _*_, _<_}
 use native.Mathlib.Omega.{arith}
 use lib.IntN.{ℤ}
 use lib.Ieee.{binary32, ofBits}
-use lib.ListN.{length, length-map}
-use Rattle.integers.specs.Laws.Loops.{range}
+use lib.ListN.{length, getD, length-map}
+use Rattle.integers.specs.Laws.Loops.{range, range-long, range-at}
 use Rattle.integers.specs.Vectors.{Bounded}
 use Rattle.readings.specs.declared.Measured.{Measured}
 use Rattle.readings.specs.declared.Measured.the-variants as measured
@@ -50,12 +50,12 @@ units-sound x = record {
   ranged = map-ranged measureUnits units-in-range x;
 }
 
-range-long : (i n : ℕ) → length (range i n) ≡ n
-range-long i zero = refl
-range-long i (suc n) = ap suc (range-long (suc i) n)
-
 pub fvecs-count : (b : List ℕ) → length (fvecsHour b .readings) ≡ wordAt b 0
 fvecs-count b = length-map (range 0 (wordAt b 0)) (λ (i : ℕ). measureAt b (4 + 4 * i)) ∙ range-long 0 (wordAt b 0)
+
+-- its reading i is the pattern in that place
+pub fvecs-reading : (b : List ℕ) (i : ℕ) (d : Measured) → i < wordAt b 0 → getD (fvecsHour b .readings) i d ≡ measureAt b (4 + 4 * i)
+fvecs-reading b i d h = let f : ℕ → Measured = λ j. measureAt b (4 + 4 * j) in let z : 0 + i ≡ i = omega arith in range-at f 0 (wordAt b 0) i d h ∙ ap f z
 
 pub fvecs-sound : (b : List ℕ) → Sound (fvecsHour b)
 fvecs-sound b = record {

@@ -7,6 +7,7 @@ use native.Mathlib.Numerals.{add-one}
 use native.Mathlib.Omega.{arith}
 use lib.ListN.{length, getD, take, drop, length-append, length-drop, drop-of-length-le}
 use lib.Seq.{take-all, take-suc, take-at, drop-at, drop-drop}
+use Rattle.integers.specs.Laws.Loops.{map-at}
 use Rattle.layers.specs.Digits.{joined, cut}
 use Rattle.layers.specs.Laws.Loops.{write-in}
 
@@ -50,12 +51,6 @@ module _ {A : Type 0} (n : ℕ) where
   cut-at (suc k) zero f h = let z : 0 ≡ n * 0 = omega arith in ap (λ (j : ℕ). take n (drop j f)) z
   cut-at (suc k) (suc i) f h = let s : n + n * i ≡ n * suc i = omega arith in
       cut-at k i (drop n f) (omega arith) ∙ ap (take n) (drop-drop (n * i) n f ∙ ap (λ (j : ℕ). drop j f) s)
-
--- the entry i of what f makes of a list
-pub map-at : {A B : Type 0} (f : A → B) (l : List A) (i : ℕ) (d : A) (e : B) → i < length l → getD (map f l) i e ≡ f (getD l i d)
-map-at f [] i d e h = absurd (omega arith)
-map-at f (x ∷ l) zero d e h = refl
-map-at f (x ∷ l) (suc i) d e h = map-at f l i d e (omega arith)
 
 -- parts of n that f makes, in one row, are found again, whatever follows the row
 module _ {A B : Type 0} (f : A → List B) (n : ℕ) (each : (x : A) → length (f x) ≡ n) where

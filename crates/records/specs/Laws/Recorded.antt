@@ -2,18 +2,19 @@
 use mathlib.Core.Path.{_≡_, sym, _∙_, ap}
 use mathlib.Core.Bool.{true}
 use mathlib.Core.List.{List, [], _++_, map}
-use Prim.Native.Nat.{ℕ, _+_, _*_, _/_, _^_, _<_, _≤_}
+use Prim.Native.Nat.{ℕ, _+_, _*_, _/_, _<_, _≤_}
 use native.Mathlib.Nat.{mul-div-right, mul-le-mul}
 use native.Mathlib.Omega.{arith}
 use lib.IntN.{ℤ, natAbs}
 use lib.ListN.{length, getD, take, drop, length-append, length-map}
 use lib.Seq.{drop-drop}
+use Rattle.integers.specs.Laws.Loops.{map-at}
 use Rattle.blocks.specs.Laws.Fitting.{fitting-iff}
 use Rattle.blocks.specs.Laws.Theorems.{block-digits, block-decodes, block-long8}
 use Rattle.blocks.specs.Trials.{pointAt, firstFitting, blockCode}
 use Rattle.layers.specs.E8.{e8, nearest}
-use Rattle.readings.specs.Laws.Words.{word-put}
-use Rattle.readings.specs.Words.{wordAt, bytesOf}
+use Rattle.readings.specs.Laws.Words.{word-first}
+use Rattle.readings.specs.Words.{wordAt}
 use Rattle.refusals.specs.declared.Verdict.the-variants.{Accepted}
 use Rattle.refusals.specs.Limits.{blocksMost, mMost}
 use Rattle.records.specs.Codes.{blockSize, blocksIn, codeBlocks, checkBlocks, Coder, IsBlock}
@@ -24,11 +25,7 @@ use Rattle.records.specs.Laws.Asked.{coder-positive, steps-positive, blo
 use Rattle.records.specs.Laws.Encode.{codeRecord-long}
 use Rattle.records.specs.Laws.Fitting.{AllFitted}
 use Rattle.records.specs.Laws.Frames.{whole-blocks, frame-good}
-use Rattle.records.specs.Laws.Parts.{map-at, cut-made, part-made}
-
--- a word at the front is read back
-word-first : (w : ℕ) (b : List ℕ) → w < 2 ^ 32 → wordAt (bytesOf w ++ b) 0 ≡ w
-word-first w b h = word-put (bytesOf w ++ b) 0 w (omega arith) h
+use Rattle.records.specs.Laws.Parts.{cut-made, part-made}
 
 module _ (q m : ℕ) (steps : List ℤ) (l : List (List ℤ)) (rest : List ℕ) where
   abbrev found : List ℕ

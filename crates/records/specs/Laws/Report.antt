@@ -1,7 +1,7 @@
 -- What the report's code relies on: what was given is a block and its coder, and the reports on it are exact.
 use mathlib.Core.Path.{_≡_, refl, sym, _∙_, ap, subst}
 use mathlib.Core.List.{List, [], _∷_, map}
-use Prim.Native.Nat.{ℕ, zero, suc, _+_, _*_, _<_, _≤_}
+use Prim.Native.Nat.{ℕ, _+_, _*_, _<_, _≤_}
 use native.Mathlib.Decide.{decLe}
 use native.Mathlib.Omega.{arith}
 use borrow.Author.Tests.{eqb-true}
@@ -9,7 +9,7 @@ use lib.Dec.{eqb}
 use lib.IntN.{ℤ, pos, natAbs, _*ℤ_, _-ℤ_}
 use lib.ListN.{length, getD, drop}
 use lib.Signed.{_<ℤ_}
-use Rattle.integers.specs.Laws.Loops.{range}
+use Rattle.integers.specs.Laws.Loops.{range-at}
 use Rattle.integers.specs.Laws.Sums.{at-scale, length-scaleV}
 use Rattle.integers.specs.Vectors.{«at», scaleV, Bounded}
 use Rattle.blocks.specs.Limits.{Block}
@@ -124,12 +124,6 @@ report-long c steps x = go (checkReport c steps x)
     go : (v : Verdict) → length (reported v (blockReport (natAbs (c .q)) (natAbs (c .m)) steps x) .readings) ≡ 8
     go Accepted = refl
     go (Refused r) = refl
-
--- the entry j of what f makes of a range
-pub range-at : {A : Type 0} (f : ℕ → A) (i n j : ℕ) (d : A) → j < n → getD (map f (range i n)) j d ≡ f (i + j)
-range-at f i zero j d h = absurd (omega arith)
-range-at f i (suc n) zero d h = let e : i ≡ i + 0 = omega arith in ap f e
-range-at f i (suc n) (suc j) d h = let e : suc i + j ≡ i + suc j = omega arith in range-at f (suc i) n j d (omega arith) ∙ ap f e
 
 -- the three numbers of a reading X that was decoded as s·e / 2048, with nothing lost
 pub record ExactReading (r : Reading) (X s e : ℤ) : Type 0 where

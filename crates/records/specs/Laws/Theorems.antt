@@ -33,11 +33,10 @@ use Rattle.records.specs.Laws.Decode.{decode-accepted}
 use Rattle.records.specs.Laws.Encoded.{EncodeTaken, encode-refused, encode-last, encode-taken}
 use Rattle.records.specs.Laws.Fitting.{AllFitted, accepted-iff}
 use Rattle.records.specs.Laws.Frames.{Whole, blocks-whole}
-use Rattle.records.specs.Laws.Hours.{Sound}
+use Rattle.records.specs.Laws.Hours.{Sound, fvecs-count, fvecs-reading}
 use Rattle.records.specs.Laws.Parts.{cut-long, cut-at}
 use Rattle.records.specs.Laws.Recorded.{record-count, record-good, block-bytes, encode-decodes, encoded-good}
-use Rattle.records.specs.Laws.Report.{range-at}
-use Rattle.records.specs.Laws.Vectors.{first-missing, first-beyond}
+use Rattle.records.specs.Laws.Vectors.{AllUnits, first-missing, first-beyond}
 use Rattle.records.specs.Vectors.{Hour, fvecsHour, checkReadings, unitsTaken, blocksOf, inBlocks}
 
 -- ---- which hours are accepted
@@ -46,7 +45,7 @@ module _ (c : Settings) (steps : List ℤ) (h : Hour) (room : ℕ) where
   abbrev blocks : List (List ℤ)
   blocks = inBlocks (unitsTaken (h .readings))
 
-  -- an hour is accepted exactly where settings, steps, count and room are, every reading is one, and every block has a listed step that fits it
+  -- an hour is accepted exactly where settings, steps, count and room are, no reading is missing or out of range, and every block has a listed step that fits it
   pub encode-accepted : (checkEncode c steps h room ≡ Accepted)
       ↔ ((encodeAsked c steps h room ≡ Accepted) × (checkReadings 0 (h .readings) ≡ Accepted) × AllFitted (natAbs (c .q)) (natAbs (c .m)) steps (length blocks) blocks)
   unfolding checkEncode
@@ -58,20 +57,24 @@ module _ (c : Settings) (steps : List ℤ) (h : Hour) (room : ℕ) where
         λ t. encode-last c steps h room (rw (t .0, t .1)) ∙ accepted-iff q m steps 0 blocks .1 (t .2),
       )
 
-  module _ (asked : encodeAsked c steps h room ≡ Accepted) (i : ℕ) (d : Measured) (within : i < length (h .readings))
-      (before : (j : ℕ) → j < i → (X : ℤ) × (getD (h .readings) j d ≡ measured.Units X)) where
-    -- of readings that are none the first is named, whatever the blocks are: 4 where it is missing, so a null in the last block outranks overload in the first
+  module _ (asked : encodeAsked c steps h room ≡ Accepted) (i : ℕ) (d : Measured) (within : i < length (h .readings)) (before : AllUnits i (h .readings) d) where
+    -- the first reading that is missing is named by 4, whatever the blocks are: so a null in the last block outranks overload in the first
     pub null-refused : getD (h .readings) i d ≡ measured.Missing → checkEncode c steps h room ≡ Refused (Missing i)
-    null-refused e = encode-refused c steps h room (Missing i) (rw (asked, first-missing i (h .readings) d within e before))
+    null-refused e = encode-refused c steps h room (Missing i) (rw (asked, first-missing i (h .readings) d within before e))
 
-    -- and 5 where it is out of range
+    -- and the first that is out of range by 5
     pub beyond-refused : getD (h .readings) i d ≡ measured.OutOfRange → checkEncode c steps h room ≡ Refused (OutOfRange i)
-    beyond-refused e = encode-refused c steps h room (OutOfRange i) (rw (asked, first-beyond i (h .readings) d within e before))
+    beyond-refused e = encode-refused c steps h room (OutOfRange i) (rw (asked, first-beyond i (h .readings) d within before e))
 
 -- every NaN pattern of an fvecs record is a missing reading
-pub nan-missing : (b : List ℕ) (i : ℕ) (d : Measured) → i < wordAt b 0 → nanBits binary32 (wordAt b (4 + 4 * i)) ≡ true → getD (fvecsHour b .readings) i d ≡ measured.Missing
-nan-missing b i d h e = let z : 0 + i ≡ i = omega arith in
-    range-at (λ (i : ℕ). measureAt b (4 + 4 * i)) 0 (wordAt b 0) i d h ∙ ap (λ (i : ℕ). measureAt b (4 + 4 * i)) z ∙ float-missing _ (sym (nanBits-is binary32 (wordAt b (4 + 4 * i))) ∙ e)
+pub nan-missing : (b : List ℕ) (i : ℕ) → nanBits binary32 (wordAt b (4 + 4 * i)) ≡ true → measureAt b (4 + 4 * i) ≡ measured.Missing
+nan-missing b i e = float-missing _ (sym (nanBits-is binary32 (wordAt b (4 + 4 * i))) ∙ e)
+
+-- so the first NaN is named by 4
+pub nan-refused : (c : Settings) (steps : List ℤ) (b : List ℕ) (room i : ℕ) → encodeAsked c steps (fvecsHour b) room ≡ Accepted → i < wordAt b 0
+    → ((j : ℕ) → j < i → (X : ℤ) × (measureAt b (4 + 4 * j) ≡ measured.Units X)) → nanBits binary32 (wordAt b (4 + 4 * i)) ≡ true → checkEncode c steps (fvecsHour b) room ≡ Refused (Missing i)
+nan-refused c steps b room i asked h before e = let d : Measured = measured.Missing in
+    null-refused c steps (fvecsHour b) room asked i d (omega (arith, fvecs-count b)) (λ j k. (before j k .0, fvecs-reading b j d (omega arith) ∙ before j k .1)) (fvecs-reading b i d h ∙ nan-missing b i e)
 
 -- ---- what an accepted encoding leaves in the room
 

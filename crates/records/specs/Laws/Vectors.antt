@@ -27,19 +27,28 @@ module _ (i : ℕ) (r : Measured) (l : List Measured) where
   pub reading-beyond : r ≡ measured.OutOfRange → (checkReadings i (r ∷ l) ≡ Refused (OutOfRange i)) × (unitsTaken (r ∷ l) ≡ [])
   reading-beyond e = rw e (refl, refl)
 
--- the first that is none is refused by its index, whatever follows: r is refused by name
+-- each of the first n readings is one
+abbrev pub AllUnits : ℕ → List Measured → Measured → Type 0
+AllUnits n l d = (j : ℕ) → j < n → (X : ℤ) × (getD l j d ≡ measured.Units X)
+
+-- a reading r that is none and is refused by name: the first is refused by its index, whatever follows it
 module _ (r : Measured) (name : ℕ → Refusal) (none : (p : ℕ) (l : List Measured) → checkReadings p (r ∷ l) ≡ Refused (name p)) where
-  first-none : (p i : ℕ) (l : List Measured) (d : Measured) → i < length l → getD l i d ≡ r → ((j : ℕ) → j < i → (X : ℤ) × (getD l j d ≡ measured.Units X)) → checkReadings p l ≡ Refused (name (p + i))
-  first-none p i [] d h e before = absurd (omega arith)
-  first-none p zero (x ∷ l) d h e before = let z : p ≡ p + 0 = omega arith in ap (λ (x : Measured). checkReadings p (x ∷ l)) e ∙ none p l ∙ ap (λ (j : ℕ). Refused (name j)) z
-  first-none p (suc i) (x ∷ l) d h e before = let s : suc p + i ≡ p + suc i = omega arith in let k = before 0 (omega arith) in
-      reading-taken p x l (k .0) (k .1) .0 ∙ first-none (suc p) i l d (omega arith) e (λ j h. before (suc j) (omega arith)) ∙ ap (λ (j : ℕ). Refused (name j)) s
+  first-none : (p i : ℕ) (l : List Measured) (d : Measured) → i < length l → AllUnits i l d → getD l i d ≡ r → checkReadings p l ≡ Refused (name (p + i))
+  first-none p i [] d h before e = absurd (omega arith)
+  first-none p zero (x ∷ l) d h before e = let z : p ≡ p + 0 = omega arith in ap (λ (x : Measured). checkReadings p (x ∷ l)) e ∙ none p l ∙ ap (λ (j : ℕ). Refused (name j)) z
+  first-none p (suc i) (x ∷ l) d h before e = let s : suc p + i ≡ p + suc i = omega arith in let k = before 0 (omega arith) in
+      reading-taken p x l (k .0) (k .1) .0 ∙ first-none (suc p) i l d (omega arith) (λ j m. before (suc j) (omega arith)) e ∙ ap (λ (j : ℕ). Refused (name j)) s
 
-pub first-missing : (i : ℕ) (l : List Measured) (d : Measured) → i < length l → getD l i d ≡ measured.Missing → ((j : ℕ) → j < i → (X : ℤ) × (getD l j d ≡ measured.Units X)) → checkReadings 0 l ≡ Refused (Missing i)
-first-missing i l d h e before = let z : 0 + i ≡ i = omega arith in first-none measured.Missing Missing (λ p l. refl) 0 i l d h e before ∙ ap (λ (j : ℕ). Refused (Missing j)) z
+-- by 4 where it is missing, by 5 where it is out of range
+module _ (i : ℕ) (l : List Measured) (d : Measured) (within : i < length l) (before : AllUnits i l d) where
+  here : 0 + i ≡ i
+  here = omega arith
 
-pub first-beyond : (i : ℕ) (l : List Measured) (d : Measured) → i < length l → getD l i d ≡ measured.OutOfRange → ((j : ℕ) → j < i → (X : ℤ) × (getD l j d ≡ measured.Units X)) → checkReadings 0 l ≡ Refused (OutOfRange i)
-first-beyond i l d h e before = let z : 0 + i ≡ i = omega arith in first-none measured.OutOfRange OutOfRange (λ p l. refl) 0 i l d h e before ∙ ap (λ (j : ℕ). Refused (OutOfRange j)) z
+  pub first-missing : getD l i d ≡ measured.Missing → checkReadings 0 l ≡ Refused (Missing i)
+  first-missing e = first-none measured.Missing Missing (λ p l. refl) 0 i l d within before e ∙ ap (λ (j : ℕ). Refused (Missing j)) here
+
+  pub first-beyond : getD l i d ≡ measured.OutOfRange → checkReadings 0 l ≡ Refused (OutOfRange i)
+  first-beyond e = first-none measured.OutOfRange OutOfRange (λ p l. refl) 0 i l d within before e ∙ ap (λ (j : ℕ). Refused (OutOfRange j)) here
 
 -- where nothing is refused every reading is taken
 pub readings-all : (i : ℕ) (l : List Measured) → checkReadings i l ≡ Accepted → l ≡ map measured.Units (unitsTaken l)

@@ -1,5 +1,5 @@
 -- Laws of verdicts and of the order of checks.
-use mathlib.Core.Path.{_≡_, refl}
+use mathlib.Core.Path.{_≡_, refl, _∙_, ap}
 use mathlib.Core.Bool.{Bool, true, false}
 use mathlib.Core.List.{List, [], _∷_, _++_}
 use Prim.Native.Nat.{ℕ}
@@ -22,6 +22,16 @@ unless-accepted false r e = refused-never e
 pub first-accepted : (v : Verdict) (l : List Verdict) → firstRefusal (v ∷ l) ≡ Accepted → (v ≡ Accepted) × (firstRefusal l ≡ Accepted)
 first-accepted Accepted l e = (refl, e)
 first-accepted (Refused r) l e = refused-never e
+
+-- each of a list of checks accepts
+abbrev pub Accepting : List Verdict → Type 0
+Accepting [] = Unit {0}
+Accepting (v ∷ l) = (v ≡ Accepted) × Accepting l
+
+-- then so does the list
+pub first-all : (l : List Verdict) → Accepting l → firstRefusal l ≡ Accepted
+first-all [] h = refl
+first-all (v ∷ l) h = ap (λ (v : Verdict). firstRefusal (v ∷ l)) (h .0) ∙ first-all l (h .1)
 
 -- the last check of a list is its verdict
 pub first-last : (v : Verdict) → firstRefusal (v ∷ []) ≡ v

@@ -9,11 +9,10 @@ use lib.ListN.{length, getD}
 use mir.Syntax.{w32, w64}
 use mir.Val.{SFits, toZ}
 use mir.Facts.{toZ-ofZ}
-use Rattle.integers.specs.Laws.Loops.{Filled, filled-more, filled-all, range}
+use Rattle.integers.specs.Laws.Loops.{Filled, filled-more, filled-all, range, range-at}
 use Rattle.integers.specs.Vectors.{«at»}
 use Rattle.readings.specs.declared.Reading.{Reading}
 use Rattle.readings.specs.Report.{reportReading}
-use Rattle.records.specs.Laws.Report.{range-at}
 use Rattle.records.proofs.report.report_readings.Statement.{statement}
 use Rattle.records.proofs.report.report_readings.Tie as tie
 
