@@ -1,14 +1,14 @@
 // One block of eight readings: what a step makes of it, and the first step of a list that fits (01, Layers and steps).
 ghost use mathlib.Core.Path.{_≡_};
 ghost use mathlib.Core.List.{_++_};
-ghost use Prim.Native.Nat.{_+_, _*_, _≤_};
+ghost use Prim.Native.Nat.{_+_, _*_, _^_, _<_, _≤_};
 ghost use lib.IntN.{pos, natAbs};
 ghost use lib.ListN.{length, drop};
 ghost use Rattle.integers.specs.Vectors.{scaleV};
 ghost use Rattle.lattice.specs.Rounding.{Divisor};
 ghost use Rattle.layers.specs.E8.{e8, nearest, digits8};
-ghost use Rattle.layers.specs.Sizes.{Base};
-ghost use Rattle.blocks.specs.Trials.{nothingLeft, pointAt, trial8, firstFitting, triedRoom};
+ghost use Rattle.layers.specs.Sizes.{width, longPower, Base};
+ghost use Rattle.blocks.specs.Trials.{nothingLeft, pointAt, trial8, fits, firstFitting, roomAt, triedRoom};
 ghost use Rattle.blocks.specs.Limits.{Block, UsedSteps};
 
 // What a step makes of a block: the doubled point nearest to X / s, and what M layers leave over of it.
@@ -57,19 +57,46 @@ pub fn try_step(x: &[i32], s: i64, q: i64, m: usize, out: &mut [u8]) -> Trial
     Trial { point, leftover }
 }
 
+// W, which bounds what m layers reach.
+fn width(q: i64, m: usize) -> i64
+    requires { ⌜ Base q × (natAbs q ^ m ≤ longPower) ⌝ }
+    ensures { λ r. ⌜ r ≡ pos (width (natAbs q) m) ⌝ }
+{
+    let mut w: i64 = 0;
+    let mut i: usize = 0;
+    while i < m {
+        w = q + q * w;
+        i = i + 1;
+    }
+    w
+}
+
+// Whether the step in the place t fits. Its bytes are written where the readings are in its reach, and else the room stays.
+fn try_place(x: &[i32], s: i64, t: usize, reach: i64, q: i64, m: usize, out: &mut [u8]) -> bool
+    requires { ⌜ Block (now x) × Divisor s × (t < 256) × (reach ≡ pos (width (natAbs q) m + 1)) × Base q × (natAbs q ^ m ≤ longPower) × (length (now out) ≡ 8 * m + 1) ⌝ }
+    ensures answer { λ r. ⌜ r ≡ fits e8 nearest (natAbs q) m s (now (x .entry)) ⌝ }
+    ensures room { λ _. ⌜ now (out .exit) ≡ roomAt e8 nearest (natAbs q) m t s (now (x .entry)) (now (out .entry)) ⌝ }
+{
+    if integers::small(x, (s * reach) as i32) {
+        out[0] = t as u8;
+        let found = try_step(x, s, q, m, &mut out[1..]);
+        let leftover = found.leftover;
+        return nothing_left(&leftover);
+    }
+    false
+}
+
 // T, the place of the first listed step that fits, or the list's length where none does. The block's bytes hold the trials in
-// turn: T and the digits of the one that fits, or else of the last.
+// turn: T and the digits of the one that fits, or else of the last. A step too small for a reading is not tried.
 pub fn code_block(x: &[i32], steps: &[i32], q: i64, m: usize, out: &mut [u8]) -> usize
-    requires { ⌜ Block (now x) × UsedSteps (now steps) × Base q × (length (now out) ≡ 8 * m + 1) ⌝ }
+    requires { ⌜ Block (now x) × UsedSteps (now steps) × Base q × (natAbs q ^ m ≤ longPower) × (length (now out) ≡ 8 * m + 1) ⌝ }
     ensures answer { λ r. ⌜ r ≡ firstFitting e8 nearest (natAbs q) m (now (steps .entry)) (now (x .entry)) ⌝ }
     ensures room { λ _. ⌜ now (out .exit) ≡ triedRoom e8 nearest (natAbs q) m 0 (now (steps .entry)) (now (x .entry)) (now (out .entry)) ⌝ }
 {
+    let reach = width(q, m) + 1;
     let mut t: usize = 0;
     while t < steps.len() {
-        out[0] = t as u8;
-        let found = try_step(x, steps[t] as i64, q, m, &mut out[1..]);
-        let leftover = found.leftover;
-        if nothing_left(&leftover) {
+        if try_place(x, steps[t] as i64, t, reach, q, m, out) {
             return t;
         }
         t = t + 1;

@@ -7,7 +7,7 @@ ghost use lib.IntN.{pos, natAbs};
 ghost use lib.ListN.{length, take, drop};
 ghost use Rattle.integers.specs.Vectors.{Sized};
 ghost use Rattle.layers.specs.Digits.{cut};
-ghost use Rattle.layers.specs.Sizes.{Base};
+ghost use Rattle.layers.specs.Sizes.{longPower, Base};
 ghost use Rattle.blocks.specs.Limits.{UsedSteps};
 ghost use Rattle.refusals.specs.declared.Verdict.the-variants.{Accepted};
 ghost use Rattle.refusals.specs.declared.Refusal.the-variants.{Size};
@@ -34,7 +34,7 @@ const BYTES_MOST: usize = 2112;
 
 // Codes each of k blocks into its own part of the lent bytes; refusal 6 at the first that no listed step fits.
 fn code_blocks(x: &[i32], steps: &[i32], q: i64, m: usize, k: usize, out: &mut [u8]) -> Verdict
-    requires { ⌜ Sized (8 * k) (2 ^ 24) (now x) × UsedSteps (now steps) × Base q × (m ≤ 256) × (blockSize m * k ≤ length (now out)) ⌝ }
+    requires { ⌜ Sized (8 * k) (2 ^ 24) (now x) × UsedSteps (now steps) × Base q × (m ≤ 256) × (natAbs q ^ m ≤ longPower) × (blockSize m * k ≤ length (now out)) ⌝ }
     ensures answer { λ r. ⌜ r ≡ checkFits (natAbs q) m (now (steps .entry)) 0 (cut 8 k (now (x .entry))) ⌝ }
     ensures room { λ r. ⌜ (r ≡ Accepted → now (out .exit) ≡ codeBytes (natAbs q) m (now (steps .entry)) (cut 8 k (now (x .entry))) ++ drop (blockSize m * k) (now (out .entry))) ⌝ }
 {

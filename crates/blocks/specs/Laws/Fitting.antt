@@ -1,5 +1,5 @@
 -- Which step is used: the first that fits, and no step fits exactly where the place is past the list.
-use mathlib.Core.Path.{_≡_, refl, sym, _∙_, ap}
+use mathlib.Core.Path.{_≡_, refl, sym, _∙_, ap, ap₂}
 use mathlib.Core.Logic.{_↔_}
 use mathlib.Core.Bool.{Bool, true, false, cond, false≢true}
 use mathlib.Core.List.{List, [], _∷_}
@@ -15,7 +15,7 @@ use lib.Seq.{drop-cons}
 use Rattle.integers.specs.Laws.Tests.{and-true}
 use Rattle.integers.specs.Vectors.{«at», zeros}
 use Rattle.layers.specs.Rule.{Lattice, Rule}
-use Rattle.blocks.specs.Trials.{nothingLeft, fits, firstFitting, codeAt, blockCode, triedRoom}
+use Rattle.blocks.specs.Trials.{nothingLeft, fits, firstFitting, codeAt, blockCode, inReach, roomAt, triedRoom}
 
 -- every entry is 0 exactly where the vector is zeros
 pub zero-entry : (x : ℤ) → natAbs x ≡ 0 → x ≡ pos 0
@@ -37,6 +37,9 @@ module _ (L : Lattice) (R : Rule L) (q m : ℕ) (X : List ℤ) where
   abbrev ok : ℤ → Bool
   ok s = fits L R q m s X
 
+  abbrev near : ℤ → Bool
+  near s = inReach L R q m s X
+
   abbrev T : List ℤ → ℕ
   T l = firstFitting L R q m l X
 
@@ -47,11 +50,15 @@ module _ (L : Lattice) (R : Rule L) (q m : ℕ) (X : List ℤ) where
   pub fitting-later : (s : ℤ) (l : List ℤ) → ok s ≡ false → T (s ∷ l) ≡ suc (T l)
   fitting-later s l e = ap (λ (b : Bool). cond b 0 (suc (T l))) e
 
-  pub tried-here : (t : ℕ) (s : ℤ) (l : List ℤ) (out : List ℕ) → ok s ≡ true → triedRoom L R q m t (s ∷ l) X out ≡ codeAt L R q m t s X
-  tried-here t s l out e = ap (λ (b : Bool). cond b (codeAt L R q m t s X) (triedRoom L R q m (suc t) l X (codeAt L R q m t s X))) e
+  -- the room that the step s in the place t leaves for the rest of the list
+  pub tried-here : (t : ℕ) (s : ℤ) (l : List ℤ) (out : List ℕ) → near s ≡ true → ok s ≡ true → triedRoom L R q m t (s ∷ l) X out ≡ codeAt L R q m t s X
+  tried-here t s l out r e = ap₂ (λ (a b : Bool). cond a (cond b (codeAt L R q m t s X) (triedRoom L R q m (suc t) l X (codeAt L R q m t s X))) (triedRoom L R q m (suc t) l X out)) r e
 
-  pub tried-later : (t : ℕ) (s : ℤ) (l : List ℤ) (out : List ℕ) → ok s ≡ false → triedRoom L R q m t (s ∷ l) X out ≡ triedRoom L R q m (suc t) l X (codeAt L R q m t s X)
-  tried-later t s l out e = ap (λ (b : Bool). cond b (codeAt L R q m t s X) (triedRoom L R q m (suc t) l X (codeAt L R q m t s X))) e
+  pub tried-later : (t : ℕ) (s : ℤ) (l : List ℤ) (out : List ℕ) → near s ≡ true → ok s ≡ false → triedRoom L R q m t (s ∷ l) X out ≡ triedRoom L R q m (suc t) l X (codeAt L R q m t s X)
+  tried-later t s l out r e = ap₂ (λ (a b : Bool). cond a (cond b (codeAt L R q m t s X) (triedRoom L R q m (suc t) l X (codeAt L R q m t s X))) (triedRoom L R q m (suc t) l X out)) r e
+
+  pub tried-not : (t : ℕ) (s : ℤ) (l : List ℤ) (out : List ℕ) → near s ≡ false → triedRoom L R q m t (s ∷ l) X out ≡ triedRoom L R q m (suc t) l X out
+  tried-not t s l out r = ap (λ (a : Bool). cond a (cond (ok s) (codeAt L R q m t s X) (triedRoom L R q m (suc t) l X (codeAt L R q m t s X))) (triedRoom L R q m (suc t) l X out)) r
 
   -- the step in the place T fits, where there is one
   pub first-fits : (l : List ℤ) → T l < length l → ok («at» l (T l)) ≡ true
@@ -80,20 +87,29 @@ module _ (L : Lattice) (R : Rule L) (q m : ℕ) (X : List ℤ) where
       go true e rest = let k : T (s ∷ l) ≡ 0 = fitting-here s l e in omega arith
       go false e rest = let k : T (s ∷ l) ≡ suc (T l) = fitting-later s l e in omega arith
 
-  -- the room then holds the block's bytes
-  tried-from : (t : ℕ) (l : List ℤ) (out : List ℕ) → T l < length l → triedRoom L R q m t l X out ≡ codeAt L R q m (t + T l) («at» l (T l)) X
-  tried-from t [] out h = absurd (omega arith)
-  tried-from t (s ∷ l) out h = go (ok s) refl (tried-from (suc t) l (codeAt L R q m t s X))
+  -- the room then holds the block's bytes, where X is in reach of that step
+  tried-from : (t : ℕ) (l : List ℤ) (out : List ℕ) → T l < length l → near («at» l (T l)) ≡ true → triedRoom L R q m t l X out ≡ codeAt L R q m (t + T l) («at» l (T l)) X
+  tried-from t [] out h r = absurd (omega arith)
+  tried-from t (s ∷ l) out h r = go (ok s) (near s) refl refl (tried-from (suc t) l)
     where
-      go : (b : Bool) → ok s ≡ b → (T l < length l → triedRoom L R q m (suc t) l X (codeAt L R q m t s X) ≡ codeAt L R q m (suc t + T l) («at» l (T l)) X)
+      go : (b c : Bool) → ok s ≡ b → near s ≡ c
+          → ((out : List ℕ) → T l < length l → near («at» l (T l)) ≡ true → triedRoom L R q m (suc t) l X out ≡ codeAt L R q m (suc t + T l) («at» l (T l)) X)
           → triedRoom L R q m t (s ∷ l) X out ≡ codeAt L R q m (t + T (s ∷ l)) («at» (s ∷ l) (T (s ∷ l))) X
-      go true e rest = let k : T (s ∷ l) ≡ 0 = fitting-here s l e in let z : t ≡ t + 0 = omega arith in
-          tried-here t s l out e ∙ ap (λ (t : ℕ). codeAt L R q m t s X) z ∙ ap (λ (j : ℕ). codeAt L R q m (t + j) («at» (s ∷ l) j) X) (sym k)
-      go false e rest = let k : T (s ∷ l) ≡ suc (T l) = fitting-later s l e in let z : suc t + T l ≡ t + suc (T l) = omega arith in
-          tried-later t s l out e ∙ rest (omega arith) ∙ ap (λ (t : ℕ). codeAt L R q m t («at» l (T l)) X) z ∙ ap (λ (j : ℕ). codeAt L R q m (t + j) («at» (s ∷ l) j) X) (sym k)
+      go true c e f rest = let k : T (s ∷ l) ≡ 0 = fitting-here s l e in let z : t ≡ t + 0 = omega arith in
+          tried-here t s l out (ap (λ (j : ℕ). near («at» (s ∷ l) j)) (sym k) ∙ r) e
+          ∙ ap (λ (t : ℕ). codeAt L R q m t s X) z ∙ ap (λ (j : ℕ). codeAt L R q m (t + j) («at» (s ∷ l) j) X) (sym k)
+      go false c e f rest = let k : T (s ∷ l) ≡ suc (T l) = fitting-later s l e in let z : suc t + T l ≡ t + suc (T l) = omega arith in
+          let g : near («at» l (T l)) ≡ true = ap (λ (j : ℕ). near («at» (s ∷ l) j)) (sym k) ∙ r in
+          passed c f e (λ o. rest o (omega arith) g)
+          ∙ ap (λ (t : ℕ). codeAt L R q m t («at» l (T l)) X) z ∙ ap (λ (j : ℕ). codeAt L R q m (t + j) («at» (s ∷ l) j) X) (sym k)
+        where
+          passed : (c : Bool) → near s ≡ c → ok s ≡ false → ((o : List ℕ) → triedRoom L R q m (suc t) l X o ≡ codeAt L R q m (suc t + T l) («at» l (T l)) X)
+              → triedRoom L R q m t (s ∷ l) X out ≡ codeAt L R q m (suc t + T l) («at» l (T l)) X
+          passed true f e all = tried-later t s l out f e ∙ all (codeAt L R q m t s X)
+          passed false f e all = tried-not t s l out f ∙ all out
 
-  pub tried-code : (l : List ℤ) (out : List ℕ) → T l < length l → triedRoom L R q m 0 l X out ≡ blockCode L R q m l X
-  tried-code l out h = let z : 0 + T l ≡ T l = omega arith in tried-from 0 l out h ∙ ap (λ (t : ℕ). codeAt L R q m t («at» l (T l)) X) z
+  pub tried-code : (l : List ℤ) (out : List ℕ) → T l < length l → near («at» l (T l)) ≡ true → triedRoom L R q m 0 l X out ≡ blockCode L R q m l X
+  tried-code l out h r = let z : 0 + T l ≡ T l = omega arith in tried-from 0 l out h r ∙ ap (λ (t : ℕ). codeAt L R q m t («at» l (T l)) X) z
 
   -- some listed step fits exactly where T is within the list
   pub fitting-iff : (l : List ℤ) → (T l < length l) ↔ ((j : ℕ) × (j < length l) × (ok («at» l j) ≡ true))
@@ -136,16 +152,23 @@ module _ (L : Lattice) (R : Rule L) (q m : ℕ) (X steps : List ℤ) (found : Li
       room-opened : triedRoom L R q m 0 steps X found ≡ triedRoom L R q m t (s ∷ rest) X out
       room-opened = w .room ∙ ap (λ (l : List ℤ). triedRoom L R q m t l X out) (drop-cons steps t (pos 0) h)
 
-      -- the step in the place t fits: it is the first, and its bytes stay
-      pub walked-here : fits L R q m s X ≡ true → (t ≡ first steps) × (bytes ≡ triedRoom L R q m 0 steps X found)
-      walked-here e = let k : first (s ∷ rest) ≡ 0 = fitting-here L R q m X s rest e in (omega (arith, place-opened), sym (room-opened ∙ tried-here L R q m X t s rest out e))
+      -- the step in the place t is tried and fits: it is the first, and its bytes stay
+      pub walked-here : inReach L R q m s X ≡ true → fits L R q m s X ≡ true → (t ≡ first steps) × (roomAt L R q m t s X out ≡ triedRoom L R q m 0 steps X found)
+      walked-here r e = let k : first (s ∷ rest) ≡ 0 = fitting-here L R q m X s rest e in
+          (omega (arith, place-opened), ap (λ (b : Bool). cond b bytes out) r ∙ sym (room-opened ∙ tried-here L R q m X t s rest out r e))
 
-      -- it does not: one turn more
-      pub walked-more : fits L R q m s X ≡ false → length bytes ≡ length found → Walked L R q m X steps found (t + 1) bytes
-      walked-more e long = let k : first (s ∷ rest) ≡ suc (first rest) = fitting-later L R q m X s rest e in
-          rw (add-one t) (record { within = omega arith; long = long; place = omega (arith, place-opened); room = room-opened ∙ tried-later L R q m X t s rest out e })
+      -- it does not fit, tried or not: one turn more
+      pub walked-more : fits L R q m s X ≡ false → length bytes ≡ length found → Walked L R q m X steps found (t + 1) (roomAt L R q m t s X out)
+      walked-more e long = go (inReach L R q m s X) refl
+        where
+          k : first (s ∷ rest) ≡ suc (first rest)
+          k = fitting-later L R q m X s rest e
 
-    -- after the last turn: no step fits, and the last one's bytes stay
+          go : (b : Bool) → inReach L R q m s X ≡ b → Walked L R q m X steps found (t + 1) (cond b bytes out)
+          go true r = rw (add-one t) (record { within = omega arith; long = long; place = omega (arith, k, place-opened); room = room-opened ∙ tried-later L R q m X t s rest out r e })
+          go false r = rw (add-one t) (record { within = omega arith; long = w .long; place = omega (arith, k, place-opened); room = room-opened ∙ tried-not L R q m X t s rest out r })
+
+    -- after the last turn: no step fits, and the bytes of the last one tried stay
     pub walked-all : length steps ≤ t → (t ≡ first steps) × (out ≡ triedRoom L R q m 0 steps X found)
     walked-all h = let o : drop t steps ≡ [] = drop-of-length-le steps {i = t} h in let z : t ≡ t + 0 = omega arith in
         (z ∙ sym (w .place ∙ ap (λ (r : List ℤ). t + first r) o), sym (w .room ∙ ap (λ (r : List ℤ). triedRoom L R q m t r X out) o))

@@ -37,6 +37,9 @@ abs-mul-le x y h k = rw (abs-mul x y) (mul-le-mul h k)
 pub abs-from : (x z : ℤ) → natAbs z ≤ natAbs x + natAbs (x -ℤ z)
 abs-from = byD₂ _ λ _ _ _ _. simp (ints, abs-D) (omega arith)
 
+pub abs-near : (x z : ℤ) → natAbs x ≤ natAbs z + natAbs (x -ℤ z)
+abs-near = byD₂ _ λ _ _ _ _. simp (ints, abs-D) (omega arith)
+
 -- a multiple of a number is no smaller
 pub abs-times : (s y : ℤ) → 0 < natAbs s → natAbs y ≤ natAbs (s *ℤ y)
 abs-times s y h = rw (abs-mul s y) (go (natAbs s) h)

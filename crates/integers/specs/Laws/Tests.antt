@@ -1,9 +1,10 @@
 -- What a test says that came out true, and when it does.
-use mathlib.Core.Path.{_≡_, refl}
+use mathlib.Core.Path.{_≡_, refl, ap₂}
 use mathlib.Core.Bool.{Bool, true, false, _&&_}
 use mathlib.Core.List.{List, [], _∷_}
 use Prim.Native.Nat.{ℕ, zero, suc, _≤_}
 use native.Mathlib.Omega.{arith}
+use lib.Dec.{T}
 use lib.IntN.{ℤ, pos, negℤ, natAbs}
 use lib.ListN.{length}
 use lib.Signed.{_≤ℤ_, leZ, pos-natAbs, yes-nonNeg}
@@ -37,6 +38,24 @@ small-bounded B (x ∷ a) e =
     go : natAbs x ≤ B → Bounded B a → (i : ℕ) → natAbs («at» (x ∷ a) i) ≤ B
     go h f zero = h
     go h f (suc i) = f i
+
+holds : (t : Bool) → T t → t ≡ true
+holds true h = refl
+holds false h = absurd h
+
+not-below : (B : ℕ) (x : ℤ) → natAbs x ≤ B → negℤ (pos B) ≤ℤ x
+not-below B = byD _ λ _ _. simp ints (λ h. omega arith)
+
+not-past : (B : ℕ) (x : ℤ) → natAbs x ≤ B → x ≤ℤ pos B
+not-past B = byD _ λ _ _. simp ints (λ h. omega arith)
+
+-- a vector of small entries passes the test
+pub bounded-small : (B : ℕ) (a : List ℤ) → Bounded B a → small B a ≡ true
+bounded-small B [] h = refl
+bounded-small B (x ∷ a) h =
+    ap₂ _&&_
+    (ap₂ _&&_ (holds (leZ (negℤ (pos B)) x) (not-below B x (h zero) .le)) (holds (leZ x (pos B)) (not-past B x (h zero) .le)))
+    (bounded-small B a (λ i. h (suc i)))
 
 pub sized-small : (n B : ℕ) (a : List ℤ) → length a ≡ n → small B a ≡ true → Sized n B a
 sized-small n B a h e = record { long = h; small = small-bounded B a e }

@@ -17,7 +17,7 @@ use Rattle.layers.specs.Digits.{cut}
 use Rattle.layers.specs.E8.{e8, nearest}
 use Rattle.layers.specs.Laws.Loops.{write-in}
 use Rattle.blocks.specs.Trials.{firstFitting, blockCode, triedRoom}
-use Rattle.blocks.specs.Laws.Fitting.{tried-code}
+use Rattle.blocks.specs.Laws.Theorems.{tried-block8}
 use Rattle.refusals.specs.Laws.Verdicts.{refused-never}
 use Rattle.records.specs.Codes.{blockSize}
 use Rattle.records.specs.Encode.{checkFits, codeBytes}
@@ -68,7 +68,7 @@ module _ (l : tie.At-loop Inv-loop μ-loop) where
   n-is = l .before .block-size .ensures
 
   room : n * k ≤ length found
-  room = subst (λ (t : ℕ). t * k ≤ length found) (sym n-is) (s .pre .4)
+  room = subst (λ (t : ℕ). t * k ≤ length found) (sym n-is) (s .pre .5)
 
   bytes-long : length (codeBytes q m steps (cut 8 i X)) ≡ n * i
   bytes-long = codeBytes-long q m steps (cut 8 i X) ∙ ap₂ _*_ (sym n-is) (cut-long 8 i X)
@@ -155,6 +155,7 @@ code-block-requires c κs = let b = c .before .before in let o = l b .loop .out 
       subst (λ (t : ℕ). Sized 8 (2 ^ 24) (take t (drop (8 * i (l b)) (X (l b))))) (sym (eight b)) (is-block b),
       s (l b) .pre .1,
       s (l b) .pre .2,
+      s (l b) .pre .4,
       simp (length-take, length-drop) (omega (arith, within b, l b .loop .inv .1, n-is (l b))),
     )
 
@@ -183,7 +184,7 @@ module _ (c : tie.After-code-block Inv-loop μ-loop) where
   part-is h =
       let room : List ℕ = take (n at * i at + n at - n at * i at) (drop (n at * i at) (at .loop .out)) in
       c .code-block .ensures .1 ∙ given (λ (q : ℕ) (x : List ℤ). triedRoom e8 nearest q (m at) 0 (steps at) x room)
-      ∙ tried-code e8 nearest (q at) (m at) (block b) (steps at) room h
+      ∙ tried-block8 (s at .args .q) (m at) (steps at) (block b) (s at .pre .2) (s at .pre .1) (is-block b) h room
 
   more-is : T < length (steps at) → putMid (n at * i at) (n at * i at + n at - n at * i at) (at .loop .out) part ≡ codeBytes (q at) (m at) (steps at) (cut 8 (i at + 1) (X at)) ++ drop (n at * (i at + 1)) (found at)
   more-is h =

@@ -81,6 +81,7 @@ code-blocks-requires c κs = let s = c .before .before in
       used-steps (steps s) (s .pre .0 .listed),
       s .pre .0 .base,
       omega (arith, s .pre .0 .few),
+      omega (arith, s .pre .0 .power),
       omega (arith, few s),
     )
 

@@ -12,7 +12,7 @@ use mir.Syntax.{w32, w64}
 use mir.Val.{SFits, toZ, ofZ}
 use mir.Facts.{toZ-ofZ, sfits-widen}
 use Rattle.integers.specs.Vectors.{«at»}
-use Rattle.blocks.specs.Laws.Fitting.{tried-code}
+use Rattle.blocks.specs.Laws.Theorems.{tried-block8}
 use Rattle.blocks.specs.Trials.{firstFitting, blockCode, triedRoom}
 use Rattle.layers.specs.Digits.{IsCode}
 use Rattle.layers.specs.E8.{e8, nearest, decode8}
@@ -72,7 +72,7 @@ part-code-end c = omega (arith, size-is c, c .before .pre .1 .few)
 
 code-block-requires : tie.Need-code-block-requires
 code-block-requires c κs = let b = c .before .before in
-    simp (toZ-ofZ, b .fits .q) (b .pre .0, used-steps (steps b) (b .pre .1 .listed), b .pre .1 .base, omega (arith, size-is (c .before), c .code .given .2))
+    simp (toZ-ofZ, b .fits .q) (b .pre .0, used-steps (steps b) (b .pre .1 .listed), b .pre .1 .base, omega (arith, b .pre .1 .power), omega (arith, size-is (c .before), c .code .given .2))
 
 -- what was found, and the bytes that were left
 module _ (c : tie.After-code-block) where
@@ -94,7 +94,7 @@ module _ (c : tie.After-code-block) where
   -- where a step fits they are the block's
   part-is : firstFitting e8 nearest (q s) (m s) (steps s) (x s) < length (steps s) → part ≡ code
   part-is h = let lent = take (size - 0) (drop 0 fresh) in
-      c .code-block .ensures .1 ∙ ap (λ (q : ℕ). triedRoom e8 nearest q (m s) 0 (steps s) (x s) lent) (q-is s) ∙ tried-code e8 nearest (q s) (m s) (x s) (steps s) lent h
+      c .code-block .ensures .1 ∙ ap (λ (q : ℕ). triedRoom e8 nearest q (m s) 0 (steps s) (x s) lent) (q-is s) ∙ tried-block8 (s .args .q) (m s) (steps s) (x s) (s .pre .1 .base) (used-steps (steps s) (s .pre .1 .listed)) (s .pre .0) h lent
 
 refused-report-requires : tie.Need-refused-report-requires
 refused-report-requires c κs = search needs
