@@ -1,4 +1,4 @@
--- Blocks G and H of 01, computed; and I's and J's points, whose leftover and digits they turn on.
+-- Blocks G and H of 01, computed.
 -- digits (0,1,0..)
 use mathlib.Core.Path.{_≡_, refl}
 use mathlib.Core.List.{List, [], _∷_, _++_}
