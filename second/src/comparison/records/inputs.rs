@@ -31,6 +31,9 @@ const OUT_OF_RANGE: [u32; 8] =
 /// Patterns of the greatest readings in range.
 const GREATEST: [u32; 3] = [0x4680_0000, 0xc680_0000, 0x467f_ffff];
 
+/// The greatest units in range.
+const UNITS_GREATEST: [i32; 2] = [1 << 24, -(1 << 24)];
+
 /// Units out of range.
 const UNITS_OUT: [i32; 8] =
     [(1 << 24) + 1, -(1 << 24) - 1, 1 << 25, -(1 << 25), 1 << 30, i32::MAX, i32::MIN, i32::MIN + 1];
@@ -92,34 +95,52 @@ fn compare_patterns(group: &mut Group, layout: Layout, patterns: &[u32]) {
     ENCODE.compare(group, &Asked::new(layout, &[9], &fvecs_of_patterns(patterns), room));
 }
 
-/// One reading that is missing, out of range or as great as can be, at each place of a vector.
-fn bad_readings(group: &mut Group, _: u64) {
-    let kinds = [&MISSING[..], &OUT_OF_RANGE, &GREATEST].concat();
+/// Compares the encoding of a vector at these settings.
+type Compare<E> = fn(&mut Group, Layout, &[E]);
+
+/// A vector of zeros with one entry of each kind at each place.
+fn one_at_each_place<E: Copy + Default>(group: &mut Group, kinds: &[E], compare: Compare<E>) {
     for (layout, blocks) in SOME_LAYOUTS.into_iter().zip([3, 2, MOST_BLOCKS]) {
         for place in 0..8 * blocks {
-            for &kind in &kinds {
-                let mut patterns = vec![0; 8 * blocks];
-                patterns[place] = kind;
-                compare_patterns(group, layout, &patterns);
+            for &kind in kinds {
+                let mut vector = vec![E::default(); 8 * blocks];
+                vector[place] = kind;
+                compare(group, layout, &vector);
             }
         }
     }
 }
 
-/// Readings of all kinds mixed, at every allowed setting: bad ones, the greatest, zeros.
-fn several_bad_readings(group: &mut Group, amount: u64) {
-    let mut random = Random::new(412);
+/// Vectors of zeros with several entries of all kinds, at every allowed setting.
+fn several_places<E: Copy + Default>(
+    group: &mut Group,
+    mut random: Random,
+    rounds: u64,
+    kinds: &[&[E]],
+    compare: Compare<E>,
+) {
     for layout in allowed_layouts() {
-        for _ in 0..200 * amount {
-            let mut patterns = vec![0; 8 * random.between(1, 4) as usize];
+        for _ in 0..rounds {
+            let mut vector = vec![E::default(); 8 * random.between(1, 4) as usize];
             for _ in 0..random.between(2, 6) {
-                let place = random.place(patterns.len());
-                let kinds = random.pick(&[&MISSING[..], &OUT_OF_RANGE, &GREATEST]);
-                patterns[place] = random.pick(kinds);
+                let place = random.place(vector.len());
+                let kind = random.pick(kinds);
+                vector[place] = random.pick(kind);
             }
-            compare_patterns(group, layout, &patterns);
+            compare(group, layout, &vector);
         }
     }
+}
+
+/// One reading that is missing, out of range or as great as can be, at each place of a vector.
+fn bad_readings(group: &mut Group, _: u64) {
+    one_at_each_place(group, &[&MISSING[..], &OUT_OF_RANGE, &GREATEST].concat(), compare_patterns);
+}
+
+/// Readings of all kinds mixed, at every allowed setting: bad ones, the greatest, zeros.
+fn several_bad_readings(group: &mut Group, amount: u64) {
+    let kinds = [&MISSING[..], &OUT_OF_RANGE, &GREATEST];
+    several_places(group, Random::new(412), 200 * amount, &kinds, compare_patterns);
 }
 
 /// Compares the encoding of units at these settings.
@@ -129,30 +150,10 @@ fn compare_units(group: &mut Group, layout: Layout, units: &[i32]) {
 
 /// One number of units that is out of range or as great as can be, at each place of a vector.
 fn bad_units(group: &mut Group, _: u64) {
-    let kinds = [&UNITS_OUT[..], &[1 << 24, -(1 << 24)]].concat();
-    for (layout, blocks) in SOME_LAYOUTS.into_iter().zip([3, 2, MOST_BLOCKS]) {
-        for place in 0..8 * blocks {
-            for &kind in &kinds {
-                let mut units = vec![0; 8 * blocks];
-                units[place] = kind;
-                compare_units(group, layout, &units);
-            }
-        }
-    }
+    one_at_each_place(group, &[&UNITS_OUT[..], &UNITS_GREATEST].concat(), compare_units);
 }
 
 /// Several numbers of units that are out of range or as great as can be, at every allowed setting.
 fn several_bad_units(group: &mut Group, amount: u64) {
-    let mut random = Random::new(413);
-    for layout in allowed_layouts() {
-        for _ in 0..100 * amount {
-            let mut units = vec![0; 8 * random.between(1, 4) as usize];
-            for _ in 0..random.between(2, 6) {
-                let place = random.place(units.len());
-                let kinds = random.pick(&[&UNITS_OUT[..], &[1 << 24, -(1 << 24)]]);
-                units[place] = random.pick(kinds);
-            }
-            compare_units(group, layout, &units);
-        }
-    }
+    several_places(group, Random::new(413), 100 * amount, &[&UNITS_OUT[..], &UNITS_GREATEST], compare_units);
 }
