@@ -1,0 +1,2 @@
+-- Scores. Definitions stand here; `Laws` holds what is proved of them.
+pub mod Scores

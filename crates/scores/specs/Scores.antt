@@ -1,0 +1,64 @@
+-- Scores: inner products of the points of two records, and of readings with the points of one (01, Scores).
+use mathlib.Core.List.{List, [], _∷_}
+use Prim.Native.Nat.{ℕ}
+use lib.IntN.{ℤ, pos, natAbs, _+ℤ_, _*ℤ_}
+use lib.ListN.{length}
+use Rattle.integers.specs.Floor.{floorDiv}
+use Rattle.integers.specs.Vectors.{dot}
+use Rattle.records.specs.Codes.{blockSize, blocksIn, codeBlocks, checkFrame, checkBlocks}
+use Rattle.records.specs.Decode.{stepOf, wholePoint}
+use Rattle.records.specs.Vectors.{Hour, checkReadings, unitsTaken, blocksOf, inBlocks}
+use Rattle.refusals.specs.declared.Answer.{Answer}
+use Rattle.refusals.specs.declared.settings.Settings.{Settings}
+use Rattle.refusals.specs.declared.Verdict.{Verdict}
+use Rattle.refusals.specs.Answers.{valued}
+use Rattle.refusals.specs.Limits.{blocksMost}
+use Rattle.refusals.specs.Settings.{checkSettings}
+use Rattle.refusals.specs.Steps.{checkSteps}
+use Rattle.refusals.specs.Verdicts.{firstRefusal}
+
+-- f of the first of each list, of the second of each, and so on, together
+abbrev pub total : {A B : Type 0} → (A → B → ℤ) → List A → List B → ℤ
+total f [] l = pos 0
+total f (a ∷ k) [] = pos 0
+total f (a ∷ k) (b ∷ l) = f a b +ℤ total f k l
+
+-- the inner product of two points that are held doubled: a quarter of the sum of e_i·f_i
+unfoldable pub inner : List ℤ → List ℤ → ℤ
+inner e f = floorDiv (dot e f) 4
+
+-- two coded blocks, each with its own step list: s·t times the inner product of their points
+unfoldable pub blockPair : ℕ → ℕ → List ℤ → List ℤ → List ℕ → List ℕ → ℤ
+blockPair q m steps steps′ b b′ = (stepOf steps b *ℤ stepOf steps′ b′) *ℤ inner (wholePoint q m b) (wholePoint q m b′)
+
+-- eight readings and a coded block: s times the sum of X_i·e_i
+unfoldable pub blockQuery : ℕ → ℕ → List ℤ → List ℤ → List ℕ → ℤ
+blockQuery q m steps X b = stepOf steps b *ℤ dot X (wholePoint q m b)
+
+-- over all blocks: of two code records, in units of 1/1024 squared; of readings and one, in halves of that
+unfoldable pub pairTotal : ℕ → ℕ → List ℤ → List ℤ → List ℕ → List ℕ → ℤ
+pairTotal q m steps steps′ b b′ = total (blockPair q m steps steps′) (codeBlocks m b) (codeBlocks m b′)
+
+unfoldable pub queryTotal : ℕ → ℕ → List ℤ → List ℤ → List ℕ → ℤ
+queryTotal q m steps X b = total (blockQuery q m steps) (inBlocks X) (codeBlocks m b)
+
+-- a code record of least to most blocks: refusal 10 with its place; then refusal 7, the first byte after the dimension having the place `first`
+unfoldable pub checkCode : ℕ → ℕ → ℕ → ℕ → ℕ → ℕ → ℕ → List ℕ → Verdict
+checkCode steps q m least most place first b = firstRefusal (checkFrame m least most place b ∷ checkBlocks steps q (blockSize m) first (codeBlocks m b) ∷ [])
+
+-- settings; the first step list, the second; the first record whole; the second, of as many blocks
+unfoldable pub checkPair : Settings → List ℤ → List ℕ → List ℤ → List ℕ → Verdict
+checkPair c steps b steps′ b′ = let q = natAbs (c .q) in let m = natAbs (c .m) in let K = blocksIn m b in
+    firstRefusal (checkSettings c ∷ checkSteps 0 steps ∷ checkSteps 1 steps′ ∷ checkCode (length steps) q m 1 blocksMost 0 0 b ∷ checkCode (length steps′) q m K K 0 0 b′ ∷ [])
+
+-- settings; steps; the query's count; its readings; the record, of as many blocks
+unfoldable pub checkQuery : Settings → List ℤ → Hour → List ℕ → Verdict
+checkQuery c steps h b = let K = blocksOf h in
+    firstRefusal (checkSettings c ∷ checkSteps 0 steps ∷ h .frame ∷ checkReadings 0 (h .readings) ∷ checkCode (length steps) (natAbs (c .q)) (natAbs (c .m)) K K 0 0 b ∷ [])
+
+-- the whole answers
+unfoldable pub pairScore : Settings → List ℤ → List ℕ → List ℤ → List ℕ → Answer
+pairScore c steps b steps′ b′ = valued (checkPair c steps b steps′ b′) (pairTotal (natAbs (c .q)) (natAbs (c .m)) steps steps′ b b′)
+
+unfoldable pub queryScore : Settings → List ℤ → Hour → List ℕ → Answer
+queryScore c steps h b = valued (checkQuery c steps h b) (queryTotal (natAbs (c .q)) (natAbs (c .m)) steps (unitsTaken (h .readings)) b)

@@ -1,0 +1,1 @@
+// Scores of code records (01, Scores).
