@@ -11,3 +11,7 @@ floorDiv (negsuc n) m = negsuc (n / m)
 abbrev pub floorMod : ℤ → ℕ → ℕ
 floorMod (pos n) m = n % m
 floorMod (negsuc n) m = m - suc (n % m)
+
+-- 2^32 over m, rounded down: with it code divides by m many times and takes only products
+abbrev pub reciprocal : ℕ → ℕ
+reciprocal m = 4294967296 / m

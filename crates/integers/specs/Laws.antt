@@ -4,6 +4,7 @@ pub mod Signed
 pub mod Linear
 pub mod Sizes
 pub mod Floors
+pub mod Reciprocals
 pub mod Squares
 pub mod Sums
 pub mod Lexicographic

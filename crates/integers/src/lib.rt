@@ -1,9 +1,9 @@
 // Arithmetic that the machine does not have: division by a positive number that rounds down, and powers; tests of ranges.
 ghost use mathlib.Core.Path.{_≡_};
-ghost use Prim.Native.Nat.{_<_, _^_};
+ghost use Prim.Native.Nat.{_^_, _<_, _≤_};
 ghost use lib.IntN.{pos, natAbs};
 ghost use lib.Signed.{_≤ℤ_};
-ghost use Rattle.integers.specs.Floor.{floorDiv, floorMod};
+ghost use Rattle.integers.specs.Floor.{floorDiv, floorMod, reciprocal};
 ghost use Rattle.integers.specs.Vectors.{within, small};
 
 // The greatest whole number that is at most x / m.
@@ -21,6 +21,24 @@ pub fn floor_mod(x: i64, m: i64) -> i64
 {
     let r = x % m;
     if r < 0 { r + m } else { r }
+}
+
+// 2^32 over m: one division serves all remainders of m.
+pub fn reciprocal(m: i64) -> i64
+    requires { ⌜ pos 1 ≤ℤ m ⌝ }
+    ensures { λ r. ⌜ r ≡ pos (reciprocal (natAbs m)) ⌝ }
+{
+    4294967296 / m
+}
+
+// What x is above a multiple of m, from 0 to m - 1. The quotient guessed by the reciprocal w is right, or one too low: then m or more is left.
+pub fn remainder(x: i64, m: i64, w: i64) -> i64
+    requires { ⌜ (pos 2 ≤ℤ m) × (natAbs m ≤ 2 ^ 16) × (natAbs x ≤ 2 ^ 31) × (w ≡ pos (reciprocal (natAbs m))) ⌝ }
+    ensures { λ r. ⌜ r ≡ pos (floorMod x (natAbs m)) ⌝ }
+{
+    let t = (x * w - 2147483648) >> 32;
+    let r = x - m * t;
+    if r < m { r } else { r - m }
 }
 
 // q to the power m.

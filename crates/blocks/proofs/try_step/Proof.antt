@@ -41,7 +41,7 @@ module _ (c : tie.After-nearest-point) where
 
 digits-requires : tie.Need-digits-requires
 digits-requires c κs = let p = c .before .before in let b = s p in
-    simp (toZ-ofZ, b .fits .q) (b .pre .2, subst (Sized 8 (2 ^ 30)) (sym (point-is p)) (point-sized (b .args .s) (b .args .x .now) (b .pre .1) (b .pre .0)), b .pre .3)
+    simp (toZ-ofZ, b .fits .q) (b .pre .2, subst (Sized 8 (2 ^ 26)) (sym (point-is p)) (point-sized (b .args .s) (b .args .x .now) (b .pre .1) (b .pre .0)), b .pre .3)
 
 same-length : tie.Need-same-length
 same-length c = search needs

@@ -40,9 +40,9 @@ round-sized L R B s d v h =
 pub doubled-sized : (X : List ℤ) → Block X → Sized 8 (2 ^ 25) (scaleV (pos 2) X)
 doubled-sized X h = sized-map 8 (2 ^ 24) X h (λ (x : ℤ). pos 2 *ℤ x) (2 ^ 25) (λ x k. omega (arith, abs-mul-le (pos 2) x {m = 2} (omega arith) k))
 
-pub point-sized : (s : ℤ) (X : List ℤ) → Divisor s → Block X → Sized 8 (2 ^ 30) (pointAt e8 nearest s X)
+pub point-sized : (s : ℤ) (X : List ℤ) → Divisor s → Block X → Sized 8 (2 ^ 26) (pointAt e8 nearest s X)
 point-sized s X v h = let d : List ℤ = scaleV (pos 2) X in
-    sized-more 8 (2 ^ 25 + 2 * natAbs s) (nearest .round s d) (round-sized e8 nearest (2 ^ 25) s d v (doubled-sized X h)) (2 ^ 30) (omega (arith, v .most))
+    sized-more 8 (2 ^ 25 + 2 * natAbs s) (nearest .round s d) (round-sized e8 nearest (2 ^ 25) s d v (doubled-sized X h)) (2 ^ 26) (omega (arith, v .most))
 
 -- W of no more layers than m is at most 2^17 - 2
 pub width-under : (q i m : ℕ) → 2 ≤ q → i ≤ m → q ^ m ≤ longPower → width q i + 2 ≤ 2 ^ 17

@@ -103,7 +103,7 @@ digits-requires : tie.Need-digits-requires
 digits-requires c κs = let l = c .before in let t = told l in let h = taken t in
     simp (toZ-ofZ, fits l) (
       subst Base (sym (l .before .base .ensures)) (allowed-base (s t .args .s .q) (s t .args .s .m) (h .allowed)),
-      subst (Sized 8 (2 ^ 30)) (sym (l .before .before .before .widen .ensures)) (sized-more 8 pointMost (e t) (h .input) (2 ^ 30) (omega arith)),
+      subst (Sized 8 (2 ^ 26)) (sym (l .before .before .before .widen .ensures)) (sized-more 8 pointMost (e t) (h .input) (2 ^ 26) (omega arith)),
       subst (λ (k : ℕ). 8 * k ≤ length (out t)) (sym (l .layers .ensures)) (h .fits),
     )
 

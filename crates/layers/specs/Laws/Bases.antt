@@ -10,12 +10,13 @@ use lib.IntN.{ℤ, pos, negsuc, negℤ, natAbs, _+ℤ_, _-ℤ_, _*ℤ_}
 use lib.ListN.{length, drop, length-map}
 use lib.Seq.{take-all}
 use lib.Signed.{_≤ℤ_, pos-natAbs, yes-nonNeg}
+use Rattle.integers.specs.Floor.{floorDiv}
 use Rattle.integers.specs.Laws.Difference.{ints, byD₃}
 use Rattle.integers.specs.Laws.Signed.{≤ℤ-trans}
-use Rattle.integers.specs.Laws.Sums.{entries, lengths, ext, dot-bound, sized-more}
+use Rattle.integers.specs.Laws.Sums.{entries, lengths, ext, dot-bound, sized-more, sized-map}
 use Rattle.integers.specs.Laws.Tests.{sized-small}
 use Rattle.integers.specs.Vectors.{small, «at», addV, subV, scaleV, dot, Bounded, Sized}
-use Rattle.lattice.specs.Basis.{basis, apply, pointOf}
+use Rattle.lattice.specs.Basis.{basis, inverse, apply, pointOf, coefficients}
 use Rattle.lattice.specs.Computed.{nearestPoint}
 use Rattle.lattice.specs.Laws.Rows.{Rows}
 use Rattle.lattice.specs.Rounding.{Divisor}
@@ -72,6 +73,18 @@ basis-small =
 
 pub pointOf-sized : (B : ℕ) (c : List ℤ) → Sized 8 B c → Sized 8 (8 * (4 * B)) (pointOf c)
 pointOf-sized B c h = record { long = refl; small = apply-small 8 4 B c h basis basis-small }
+
+inverse-small : Rows (Sized 8 12) inverse
+inverse-small =
+    let good : (r : List ℤ) → length r ≡ 8 → small 12 r ≡ true → Sized 8 12 r = sized-small 8 12 in
+    (good _ refl refl, (good _ refl refl, (good _ refl refl, (good _ refl refl, (good _ refl refl, (good _ refl refl, (good _ refl refl, (good _ refl refl, tt))))))))
+
+quarter-small : (B : ℕ) (x : ℤ) → natAbs x ≤ 4 * B → natAbs (floorDiv x 4) ≤ B
+quarter-small B (pos n) h = omega arith
+quarter-small B (negsuc n) h = omega arith
+
+pub coefficients-sized : (B : ℕ) (e : List ℤ) → Sized 8 B e → Sized 8 (24 * B) (coefficients e)
+coefficients-sized B e h = sized-map 8 (8 * (12 * B)) (apply inverse e) (record { long = refl; small = apply-small 8 12 B e h inverse inverse-small }) (λ (x : ℤ). floorDiv x 4) (24 * B) (λ x l. quarter-small (24 * B) x (omega arith))
 
 -- a layer's points in range: the digits' point, the point that it rounds to, and the layer point
 module _ (q : ℤ) (b : Base q) (ds : List ℕ) (h : IsLayer 8 (natAbs q) ds) where

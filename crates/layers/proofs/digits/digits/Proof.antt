@@ -5,11 +5,13 @@ use Prim.Native.Nat.{ℕ, _+_, _*_, _-_, _^_, _≤_}
 use native.Mathlib.Numerals.{add-one}
 use native.Mathlib.Omega.{arith}
 use borrow.Rule.Slice.PartMut.{putMid}
-use lib.IntN.{ℤ, natAbs}
+use lib.IntN.{ℤ, pos, natAbs}
 use lib.ListN.{length, take, drop, length-append, length-take, length-drop}
 use mir.Syntax.{w64}
-use mir.Val.{toZ}
+use mir.Val.{SFits, toZ}
 use mir.Facts.{toZ-ofZ}
+use Rattle.integers.specs.Floor.{reciprocal}
+use Rattle.integers.specs.Laws.Sums.{sized-more}
 use Rattle.integers.specs.Vectors.{Sized}
 use Rattle.lattice.specs.Computed.{nearestPoint}
 use Rattle.layers.specs.E8.{e8, nearest, digits8, leftover8}
@@ -22,15 +24,18 @@ use Rattle.layers.proofs.digits.digits.Statement.{statement}
 use Rattle.layers.proofs.digits.digits.Tie as tie
 
 abbrev Inv-loop : tie.InvT-loop
-Inv-loop e q m out₀ g₀ i₀ out g i = (i ≤ m) × (length out ≡ length out₀) × (g ≡ leftover8 (natAbs (toZ w64 q)) i e) × (out ≡ digits8 (natAbs (toZ w64 q)) i e ++ drop (8 * i) out₀)
+Inv-loop e q m out₀ w g₀ i₀ out g i = (i ≤ m) × (length out ≡ length out₀) × (g ≡ leftover8 (natAbs (toZ w64 q)) i e) × (out ≡ digits8 (natAbs (toZ w64 q)) i e ++ drop (8 * i) out₀)
 
 abbrev μ-loop : tie.MeasureT-loop
-μ-loop e q m out₀ g₀ i₀ out g i = m - i
+μ-loop e q m out₀ w g₀ i₀ out g i = m - i
 
 -- what stands at the loop's test
 module _ (l : tie.At-loop Inv-loop μ-loop) where
   abbrev s : tie.Start Inv-loop μ-loop
-  s = l .before .before .before
+  s = l .before .before .before .before
+
+  abbrev w : ℤ
+  w = l .before .before .reciprocal .result
 
   abbrev q : ℤ
   q = s .args .q
@@ -53,11 +58,20 @@ module _ (l : tie.At-loop Inv-loop μ-loop) where
   out-is : l .loop .out ≡ written ++ drop (8 * i) found
   out-is = simp (toZ-ofZ, s .fits .q) at (l .loop .inv .3)
 
-  g-small : Sized 8 (2 ^ 30) (l .loop .g)
-  g-small = subst (Sized 8 (2 ^ 30)) (sym g-is) (leftover-stays e8 nearest (natAbs q) (base-two q (s .pre .0)) (2 ^ 30) (omega arith) i e (s .pre .1))
+  w-fits : SFits w64 w
+  w-fits = record { sfits = l .before .before .reciprocal .ok }
+
+  w-is : w ≡ pos (reciprocal (natAbs q))
+  w-is = simp (toZ-ofZ, s .fits .q) at (l .before .before .reciprocal .ensures)
+
+  g-small : Sized 8 (2 ^ 26) (l .loop .g)
+  g-small = subst (Sized 8 (2 ^ 26)) (sym g-is) (leftover-stays e8 nearest (natAbs q) (base-two q (s .pre .0)) (2 ^ 26) (omega arith) i e (s .pre .1))
 
   eight : 8 * i + 8 - 8 * i ≡ 8
   eight = omega arith
+
+reciprocal-requires : tie.Need-reciprocal-requires Inv-loop μ-loop
+reciprocal-requires c κs = let s = c .before in simp (toZ-ofZ, s .fits .q) (base-divisor (s .args .q) (s .pre .0) .least)
 
 loop-holds : tie.Need-loop-holds Inv-loop μ-loop
 loop-holds c = (omega arith, refl, refl, refl)
@@ -79,11 +93,11 @@ part-layer-digits-end c = omega (arith, s (c .before .before) .pre .2)
 
 layer-digits-requires : tie.Need-layer-digits-requires Inv-loop μ-loop
 layer-digits-requires c κs = let l = c .before .before .before in
-    simp (toZ-ofZ, s l .fits .q, length-take, length-drop) (s l .pre .0, g-small l, omega (arith, s l .pre .2))
+    let f = w-fits l in simp (toZ-ofZ, s l .fits .q, f, length-take, length-drop) (s l .pre .0, g-small l, w-is l, omega (arith, s l .pre .2))
 
 nearest-point-requires : tie.Need-nearest-point-requires Inv-loop μ-loop
 nearest-point-requires c κs = let l = c .before .before .before .before .before .before .before in
-    simp (toZ-ofZ, s l .fits .q) (base-divisor (q l) (s l .pre .0), g-small l)
+    simp (toZ-ofZ, s l .fits .q) (base-divisor (q l) (s l .pre .0), sized-more 8 (2 ^ 26) (l .loop .g) (g-small l) (2 ^ 30) (omega arith))
 
 add-i : tie.Need-add-i Inv-loop μ-loop
 add-i c = omega arith
@@ -100,7 +114,7 @@ module _ (c : tie.After-layer-digits Inv-loop μ-loop) where
   layer = layerDigits e8 (natAbs (q l)) (leftover8 (natAbs (q l)) (i l) (e l))
 
   abbrev part : List ℕ
-  part = c .layer-digits .last .1 .1 .0
+  part = c .layer-digits .last .1 .1 .1 .0
 
   part-is : part ≡ layer ++ drop 8 (take 8 (drop (8 * i l) (l .loop .out)))
   part-is = (simp (toZ-ofZ, s l .fits .q) at (c .layer-digits .ensures))
@@ -143,6 +157,7 @@ digits-spec =
     (tie.spec
     Inv-loop
     μ-loop
+    reciprocal-requires
     loop-holds
     mul-at
     add-end

@@ -15,20 +15,20 @@ use Rattle.layers.proofs.digits.remainder.Tie as tie
 
 module _ (s : tie.Start) where
   least : pos 1 ≤ℤ s .args .q
-  least = ≤ℤ-trans (pos 1) (pos 2) (s .args .q) (record { le = tt }) (s .pre .least)
+  least = ≤ℤ-trans (pos 1) (pos 2) (s .args .q) (record { le = tt }) (s .pre .0 .least)
 
   small : floorMod (s .args .x) (natAbs (s .args .q)) < 256
-  small = omega (arith, floorMod-lt (s .args .x) (natAbs (s .args .q)) (abs-pos (s .args .q) least), s .pre .most)
+  small = omega (arith, floorMod-lt (s .args .x) (natAbs (s .args .q)) (abs-pos (s .args .q) least), s .pre .0 .most)
 
-floor-mod-requires : tie.Need-floor-mod-requires
-floor-mod-requires c κs = simp (toZ-ofZ, c .fits .q) (least c)
+remainder-requires : tie.Need-remainder-requires
+remainder-requires c κs = simp (toZ-ofZ, c .fits .x, c .fits .q, c .fits .w) (c .pre .0 .least, omega (arith, c .pre .0 .most), c .pre .1, c .pre .2)
 
-module _ (c : tie.After-floor-mod) where
-  fits : SFits w64 (c .floor-mod .result)
-  fits = record { sfits = c .floor-mod .ok }
+module _ (c : tie.After-remainder) where
+  fits : SFits w64 (c .remainder .result)
+  fits = record { sfits = c .remainder .ok }
 
-  is : c .floor-mod .result ≡ pos (floorMod (c .before .args .x) (natAbs (c .before .args .q)))
-  is = simp (toZ-ofZ, c .before .fits .x, c .before .fits .q) at (c .floor-mod .ensures)
+  is : c .remainder .result ≡ pos (floorMod (c .before .args .x) (natAbs (c .before .args .q)))
+  is = simp (toZ-ofZ, c .before .fits .x, c .before .fits .q) at (c .remainder .ensures)
 
 cast-result : tie.Need-cast-result
 cast-result c = simp (toZ-ofZ, fits c) (rw (is c) tt, record { fits = omega (arith, ap natAbs (is c), small (c .before)) })
@@ -37,4 +37,4 @@ returns : tie.Need-returns
 returns c = simp (toZ-ofZ, fits c) (ap natAbs (is c))
 
 pub remainder-spec : {M : Type 1} → statement M
-remainder-spec = tie.close (tie.spec floor-mod-requires cast-result returns)
+remainder-spec = tie.close (tie.spec remainder-requires cast-result returns)

@@ -16,10 +16,10 @@ use Rattle.layers.proofs.digits.remainders.Statement.{statement}
 use Rattle.layers.proofs.digits.remainders.Tie as tie
 
 abbrev Inv-loop : tie.InvT-loop
-Inv-loop c q out₀ k₀ out k = (k ≤ 8) × (length out ≡ length out₀) × (out ≡ take k (remainders (natAbs (toZ w64 q)) c) ++ drop k out₀)
+Inv-loop c q w out₀ k₀ out k = (k ≤ 8) × (length out ≡ length out₀) × (out ≡ take k (remainders (natAbs (toZ w64 q)) c) ++ drop k out₀)
 
 abbrev μ-loop : tie.MeasureT-loop
-μ-loop c q out₀ k₀ out k = 8 - k
+μ-loop c q w out₀ k₀ out k = 8 - k
 
 -- one digit more, at k
 module _ (c : tie.After-remainder Inv-loop μ-loop) where
@@ -33,7 +33,7 @@ module _ (c : tie.After-remainder Inv-loop μ-loop) where
   ds = remainders (natAbs (s .args .q)) (s .args .c .now)
 
   ds-long : length ds ≡ 8
-  ds-long = length-map (s .args .c .now) _ ∙ s .pre .1
+  ds-long = length-map (s .args .c .now) _ ∙ s .pre .1 .long
 
   abbrev none : ℕ
   none = floorMod (pos 0) (natAbs (s .args .q))
@@ -52,7 +52,9 @@ element-copy-out-remainder : tie.Need-element-copy-out-remainder Inv-loop μ-loo
 element-copy-out-remainder c = omega arith
 
 remainder-requires : tie.Need-remainder-requires Inv-loop μ-loop
-remainder-requires c κs = let s = c .before .before .before .before in simp (toZ-ofZ, s .fits .q) (s .pre .0)
+remainder-requires c κs = let l = c .before .before in let s = l .before .before in
+    let f : SFits w64 (getD (s .args .c .now) (l .loop .k) (pos 0)) = record { sfits = c .remainder-arg .given } in
+    simp (toZ-ofZ, s .fits .q, s .fits .w, f) (s .pre .0, s .pre .1 .small (l .loop .k), s .pre .2)
 
 slice-write-out : tie.Need-slice-write-out Inv-loop μ-loop
 slice-write-out c = omega arith
@@ -67,7 +69,7 @@ loop-again : tie.Need-loop-again Inv-loop μ-loop
 loop-again c = (
   omega arith,
   simp length-set (l c .loop .inv .1),
-  simp (toZ-ofZ, s c .fits .q) (ap₂ (λ (o : List ℕ) (d : ℕ). set o (l c .loop .k) d) (simp (toZ-ofZ, s c .fits .q) at (l c .loop .inv .2)) (digit c) ∙ write-next (ds c) (s c .args .out .now) (l c .loop .k) (none c) (omega (arith, ds-long c)) (omega (arith, ds-long c, s c .pre .2))),
+  simp (toZ-ofZ, s c .fits .q) (ap₂ (λ (o : List ℕ) (d : ℕ). set o (l c .loop .k) d) (simp (toZ-ofZ, s c .fits .q) at (l c .loop .inv .2)) (digit c) ∙ write-next (ds c) (s c .args .out .now) (l c .loop .k) (none c) (omega (arith, ds-long c)) (omega (arith, ds-long c, s c .pre .3))),
 )
 
 same-length : tie.Need-same-length Inv-loop μ-loop
@@ -76,7 +78,7 @@ same-length c = c .before .loop .inv .1
 returns : tie.Need-returns Inv-loop μ-loop
 returns c = let l = c .before in let s = l .before .before in let ds = remainders (natAbs (s .args .q)) (s .args .c .now) in
     let e : l .loop .k ≡ 8 = omega arith in
-    (simp (toZ-ofZ, s .fits .q) at (l .loop .inv .2)) ∙ ap (λ (k : ℕ). take k ds ++ drop k (s .args .out .now)) e ∙ ap (λ (f : List ℕ). f ++ drop 8 (s .args .out .now)) (take-all 8 ds (omega (arith, length-map (s .args .c .now) (λ (x : ℤ). floorMod x (natAbs (s .args .q))), s .pre .1)))
+    (simp (toZ-ofZ, s .fits .q) at (l .loop .inv .2)) ∙ ap (λ (k : ℕ). take k ds ++ drop k (s .args .out .now)) e ∙ ap (λ (f : List ℕ). f ++ drop 8 (s .args .out .now)) (take-all 8 ds (omega (arith, length-map (s .args .c .now) (λ (x : ℤ). floorMod x (natAbs (s .args .q))), s .pre .1 .long)))
 
 pub remainders-spec : {M : Type 1} → statement M
 remainders-spec =
