@@ -6,8 +6,10 @@ use Prim.Native.Nat.{ℕ, suc, _+_, _*_, _/_, _^_, _<_, _≤_}
 use lib.Dec.{ltb}
 use lib.IntN.{ℤ, natAbs}
 use lib.ListN.{length, getD, take, drop}
+use Rattle.integers.specs.Vectors.{«at»}
 use Rattle.layers.specs.Answers.{checkBelow}
 use Rattle.layers.specs.Digits.{IsCode, cut}
+use Rattle.layers.specs.E8.{decode8}
 use Rattle.layers.specs.Sizes.{Base}
 use Rattle.readings.specs.Words.{wordAt}
 use Rattle.refusals.specs.declared.Refusal.the-variants.{Byte, Record}
@@ -32,6 +34,13 @@ blocksIn m b = wordAt b 0 / blockSize m
 
 abbrev pub codeBlocks : ℕ → List ℕ → List (List ℕ)
 codeBlocks m b = cut (blockSize m) (blocksIn m b) (drop 4 b)
+
+-- the step that a coded block names, and its doubled point
+abbrev pub stepOf : List ℤ → List ℕ → ℤ
+stepOf steps b = «at» steps (getD b 0 0)
+
+abbrev pub wholePoint : ℕ → ℕ → List ℕ → List ℤ
+wholePoint q m b = decode8 q m (drop 1 b)
 
 -- refusal 10 at the record's place, unless its dimension is K (8 M + 1), with K from least to most, and no byte is cut off
 abbrev pub checkFrame : ℕ → ℕ → ℕ → ℕ → List ℕ → Verdict

@@ -2,7 +2,4 @@
 pub mod Frames
 pub mod Vectors
 pub mod Codes
-pub mod Encode
-pub mod Decode
-pub mod Report
 pub mod Laws

@@ -1,9 +1,12 @@
 -- Vectors of readings as they are lent: a slice of whole units, or an fvecs record (01, Readings and units; Bytes).
+use mathlib.Core.Path.{_≡_}
+use mathlib.Core.Bool.{true}
 use mathlib.Core.List.{List, [], _∷_, map}
-use Prim.Native.Nat.{ℕ, suc, _+_, _*_, _/_}
+use Prim.Native.Nat.{ℕ, suc, _+_, _*_, _/_, _^_}
 use lib.IntN.{ℤ}
 use lib.ListN.{length}
 use Rattle.integers.specs.Laws.Loops.{range}
+use Rattle.integers.specs.Vectors.{Bounded}
 use Rattle.layers.specs.Digits.{cut}
 use Rattle.readings.specs.declared.Measured.{Measured}
 use Rattle.readings.specs.declared.Measured.the-variants as measured
@@ -50,3 +53,8 @@ blocksOf h = length (h .readings) / 8
 -- X in blocks of eight
 abbrev pub inBlocks : List ℤ → List (List ℤ)
 inBlocks X = cut 8 (length X / 8) X
+
+-- X of an hour whose readings were all taken
+pub record UnitsTaken (X : List ℤ) : Type 0 where
+  pub whole : wholeBlocks 8 1 blocksMost (length X) ≡ true
+  pub small : Bounded (2 ^ 24) X

@@ -1,9 +1,9 @@
 // Code records: the one check that decoding, scores and searches make (01, When the unit says no).
 ghost use mathlib.Core.Path.{_≡_};
 ghost use Prim.Native.Nat.{_+_, _*_, _^_, _<_, _≤_};
-ghost use lib.ListN.{length};
+ghost use lib.ListN.{length, getD};
 ghost use Rattle.layers.specs.Digits.{cut};
-ghost use Rattle.records.specs.Codes.{checkBlock, checkBlocks, blockSize, blocksIn};
+ghost use Rattle.records.specs.Codes.{blockSize, blocksIn, stepOf, checkBlock, checkBlocks};
 use layers::asked;
 use readings::words;
 use refusals::Refusal;
@@ -23,6 +23,14 @@ pub fn blocks_in(b: &[u8], m: usize) -> usize
     ensures { λ r. ⌜ r ≡ blocksIn m (now (b .entry)) ⌝ }
 {
     words::word_at(b, 0) as usize / block_size(m)
+}
+
+// The step that a coded block names.
+pub fn step_of(steps: &[i32], b: &[u8]) -> i64
+    requires { ⌜ (1 ≤ length (now b)) × (getD (now b) 0 0 < length (now steps)) ⌝ }
+    ensures { λ r. ⌜ r ≡ stepOf (now (steps .entry)) (now (b .entry)) ⌝ }
+{
+    steps[b[0] as usize] as i64
 }
 
 fn wide(t: u8) -> usize

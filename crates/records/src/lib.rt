@@ -1,8 +1,5 @@
-// Records of readings and of codes: encode, decode, report (01, Bytes).
+// Records of readings and of codes: their frames, their readings, and the one check of a code record (01, Bytes).
 pub mod asked;
 pub mod codes;
-pub mod decode;
-pub mod encode;
 pub mod frames;
-pub mod report;
 pub mod vectors;

@@ -5,8 +5,7 @@ use lib.IntN.{ℤ, pos, natAbs, _+ℤ_, _*ℤ_}
 use lib.ListN.{length}
 use Rattle.integers.specs.Floor.{floorDiv}
 use Rattle.integers.specs.Vectors.{dot}
-use Rattle.records.specs.Codes.{blockSize, blocksIn, codeBlocks, checkFrame, checkBlocks}
-use Rattle.records.specs.Decode.{stepOf, wholePoint}
+use Rattle.records.specs.Codes.{blockSize, blocksIn, codeBlocks, checkFrame, checkBlocks, stepOf, wholePoint}
 use Rattle.records.specs.Vectors.{Hour, checkReadings, unitsTaken, blocksOf, inBlocks}
 use Rattle.refusals.specs.declared.Answer.{Answer}
 use Rattle.refusals.specs.declared.settings.Settings.{Settings}

@@ -7,7 +7,7 @@ use Rattle.refusals.specs.declared.Answer.{Answer}
 use Rattle.refusals.specs.declared.settings.Settings.{Settings}
 use Rattle.refusals.specs.Verdicts.{numberOf, placeOf}
 use Rattle.lattice.specs.declared.PointAnswer.{PointAnswer}
-use Rattle.records.specs.declared.report.ReportAnswer.{ReportAnswer}
+use Rattle.reports.specs.declared.ReportAnswer.{ReportAnswer}
 use Rattle.unit.specs.declared.EkAnswer.{EkAnswer}
 use Rattle.unit.specs.declared.EkPoint.{EkPoint}
 use Rattle.unit.specs.declared.EkReading.{EkReading}

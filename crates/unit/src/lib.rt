@@ -5,20 +5,17 @@ ghost use lib.ListN.{length};
 ghost use Rattle.readings.specs.Taking.{takeBits, takeUnits};
 ghost use Rattle.lattice.specs.Answers.{nearest};
 ghost use Rattle.layers.specs.Answers.{coded, digitRoom, decoded as pointDecoded};
-ghost use Rattle.records.specs.Decode.{decoded, decodedRoom};
-ghost use Rattle.records.specs.Encode.{encoded, encodedRoom};
-ghost use Rattle.records.specs.Report.{report};
+ghost use Rattle.decoding.specs.Decode.{decoded, decodedRoom};
+ghost use Rattle.encoding.specs.Encode.{encoded, encodedRoom};
+ghost use Rattle.reports.specs.Report.{report};
 ghost use Rattle.records.specs.Vectors.{unitsHour, fvecsHour};
 ghost use Rattle.unit.specs.Answers.{settings, takenOut, pointOut, answerOut, readingOut, reportOut};
 use lattice::PointAnswer;
 use readings::Reading;
 use readings::Taken;
-use records::decode;
-use records::encode;
-use records::report;
-use records::report::ReportAnswer;
 use refusals::Answer;
 use refusals::settings::Settings;
+use reports::ReportAnswer;
 
 // A reading as taken: number 0 and its value, or 4 (missing) or 5 (out of range) and 0.0.
 #[repr(C)]
@@ -162,7 +159,7 @@ pub extern "C" fn ek_encode(s: EkSettings, steps: &[i32], hour: &[u8], out: &mut
     ensures answer { λ r. ⌜ r ≡ answerOut (encoded (settings s) (now (steps .entry)) (fvecsHour (now (hour .entry))) (length (now (out .entry)))) ⌝ }
     ensures room { λ _. ⌜ now (out .exit) ≡ encodedRoom (settings s) (now (steps .entry)) (fvecsHour (now (hour .entry))) (now (out .entry)) ⌝ }
 {
-    answer_out(encode::encode(settings_in(s), steps, hour, out))
+    answer_out(encoding::encode(settings_in(s), steps, hour, out))
 }
 
 // The same of an hour in whole units of 1/1024.
@@ -176,7 +173,7 @@ pub extern "C" fn ek_encode_units(
     ensures answer { λ r. ⌜ r ≡ answerOut (encoded (settings s) (now (steps .entry)) (unitsHour (now (units .entry))) (length (now (out .entry)))) ⌝ }
     ensures room { λ _. ⌜ now (out .exit) ≡ encodedRoom (settings s) (now (steps .entry)) (unitsHour (now (units .entry))) (now (out .entry)) ⌝ }
 {
-    answer_out(encode::encode_units(settings_in(s), steps, units, out))
+    answer_out(encoding::encode_units(settings_in(s), steps, units, out))
 }
 
 // Decodes a bvecs record as an fvecs record at the front of the lent bytes.
@@ -185,7 +182,7 @@ pub extern "C" fn ek_decode(s: EkSettings, steps: &[i32], code: &[u8], out: &mut
     ensures answer { λ r. ⌜ r ≡ answerOut (decoded (settings s) (now (steps .entry)) (now (code .entry)) (length (now (out .entry)))) ⌝ }
     ensures room { λ _. ⌜ now (out .exit) ≡ decodedRoom (settings s) (now (steps .entry)) (now (code .entry)) (now (out .entry)) ⌝ }
 {
-    answer_out(decode::decode(settings_in(s), steps, code, out))
+    answer_out(decoding::decode(settings_in(s), steps, code, out))
 }
 
 // One reading of a report as C takes it.
@@ -237,5 +234,5 @@ fn report_out(a: ReportAnswer) -> EkReportAnswer
 pub extern "C" fn ek_report(s: EkSettings, steps: &[i32], units: &[i32]) -> EkReportAnswer
     ensures { λ r. ⌜ r ≡ reportOut (report (settings s) (now (steps .entry)) (now (units .entry))) ⌝ }
 {
-    report_out(report::report(settings_in(s), steps, units))
+    report_out(reports::report(settings_in(s), steps, units))
 }

@@ -3,7 +3,7 @@ use mathlib.Core.Path.{_∙_, ap}
 use borrow.Author.Needs.{needs}
 use Rattle.refusals.specs.declared.settings.Settings.{Settings}
 use lib.ListN.{length}
-use Rattle.records.specs.Decode.{decoded, decodedRoom}
+use Rattle.decoding.specs.Decode.{decoded, decodedRoom}
 use Rattle.unit.specs.Answers.{answerOut}
 use Rattle.unit.proofs.ek_decode.Statement.{statement}
 use Rattle.unit.proofs.ek_decode.Tie as tie

@@ -3,7 +3,7 @@ use mathlib.Core.Path.{_∙_, ap}
 use borrow.Author.Needs.{needs}
 use Rattle.refusals.specs.declared.settings.Settings.{Settings}
 use lib.ListN.{length}
-use Rattle.records.specs.Encode.{encoded, encodedRoom}
+use Rattle.encoding.specs.Encode.{encoded, encodedRoom}
 use Rattle.records.specs.Vectors.{unitsHour}
 use Rattle.unit.specs.Answers.{answerOut}
 use Rattle.unit.proofs.ek_encode_units.Statement.{statement}

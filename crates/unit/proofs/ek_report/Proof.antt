@@ -3,9 +3,9 @@ use mathlib.Core.Path.{_∙_, ap}
 use borrow.Author.Needs.{needs}
 use lib.ListN.{length}
 use Rattle.refusals.specs.declared.settings.Settings.{Settings}
-use Rattle.records.specs.declared.report.ReportAnswer.{ReportAnswer}
-use Rattle.records.specs.Laws.Report.{report-long}
-use Rattle.records.specs.Report.{report}
+use Rattle.reports.specs.declared.ReportAnswer.{ReportAnswer}
+use Rattle.reports.specs.Laws.Report.{report-long}
+use Rattle.reports.specs.Report.{report}
 use Rattle.unit.specs.Answers.{reportOut}
 use Rattle.unit.proofs.ek_report.Statement.{statement}
 use Rattle.unit.proofs.ek_report.Tie as tie

@@ -1,0 +1,160 @@
+-- What encoding promises, for every hour, q, M and K: which hours are accepted, and that decoding finds the nearest points again.
+use mathlib.Core.Path.{_≡_, sym, _∙_, ap}
+use mathlib.Core.Bool.{true}
+use mathlib.Core.Logic.{_↔_}
+use mathlib.Core.List.{List, [], _∷_, _++_}
+use Prim.Native.Nat.{ℕ, _+_, _*_, _/_, _<_, _≤_}
+use native.Mathlib.Omega.{arith}
+use lib.Dec.{leb}
+use lib.Ieee.{binary32, nanBits}
+use lib.Ieee.Bits.{nanBits-is}
+use lib.IntN.{ℤ, natAbs}
+use lib.ListN.{length, getD, take, drop, length-take, length-drop}
+use Rattle.blocks.specs.Trials.{pointAt, firstFitting, blockCode}
+use Rattle.layers.specs.E8.{e8, nearest}
+use Rattle.readings.specs.declared.Measured.{Measured}
+use Rattle.readings.specs.declared.Measured.the-variants as measured
+use Rattle.readings.specs.Laws.Taking.{float-missing}
+use Rattle.readings.specs.Words.{wordAt, measureAt}
+use Rattle.refusals.specs.declared.settings.Settings.{Settings}
+use Rattle.refusals.specs.declared.Refusal.the-variants.{Missing, OutOfRange, Size}
+use Rattle.refusals.specs.declared.Verdict.{Verdict}
+use Rattle.refusals.specs.declared.Verdict.the-variants.{Accepted, Refused}
+use Rattle.refusals.specs.Answers.{written}
+use Rattle.refusals.specs.Laws.Verdicts.{first-accepted}
+use Rattle.refusals.specs.Limits.{blocksMost}
+use Rattle.refusals.specs.Settings.{checkSettings}
+use Rattle.refusals.specs.Steps.{checkSteps}
+use Rattle.refusals.specs.Verdicts.{unless}
+use Rattle.records.specs.Codes.{blockSize, codeLength, blocksIn, codeBlocks, stepOf, wholePoint}
+use Rattle.decoding.specs.Decode.{fvecsLength, checkDecode}
+use Rattle.encoding.specs.Encode.{checkFits, codeRecord, encodeAsked, checkEncode, encodedRoom}
+use Rattle.decoding.specs.Laws.Decode.{decode-accepted}
+use Rattle.encoding.specs.Laws.Encoded.{EncodeTaken, encode-refused, encode-last, encode-taken}
+use Rattle.encoding.specs.Laws.Fitting.{AllFitted, accepted-iff}
+use Rattle.records.specs.Laws.Frames.{Whole, blocks-whole}
+use Rattle.records.specs.Laws.Hours.{Sound, fvecs-count, fvecs-reading}
+use Rattle.records.specs.Laws.Parts.{cut-long, cut-at}
+use Rattle.decoding.specs.Laws.Recorded.{record-count, record-good, block-bytes, encode-decodes, encoded-good}
+use Rattle.records.specs.Laws.Vectors.{AllUnits, first-missing, first-beyond}
+use Rattle.records.specs.Vectors.{Hour, fvecsHour, checkReadings, unitsTaken, blocksOf, inBlocks}
+
+-- ---- which hours are accepted
+
+module _ (c : Settings) (steps : List ℤ) (h : Hour) (room : ℕ) where
+  abbrev blocks : List (List ℤ)
+  blocks = inBlocks (unitsTaken (h .readings))
+
+  -- an hour is accepted exactly where settings, steps, count and room are, no reading is missing or out of range, and every block has a listed step that fits it
+  pub encode-accepted : (checkEncode c steps h room ≡ Accepted)
+      ↔ ((encodeAsked c steps h room ≡ Accepted) × (checkReadings 0 (h .readings) ≡ Accepted) × AllFitted (natAbs (c .q)) (natAbs (c .m)) steps (length blocks) blocks)
+  unfolding checkEncode
+  encode-accepted =
+      let q : ℕ = natAbs (c .q) in let m : ℕ = natAbs (c .m) in
+      let asked : Verdict = encodeAsked c steps h room in let readings : Verdict = checkReadings 0 (h .readings) in let fitting : Verdict = checkFits q m steps 0 blocks in (
+        λ e. let a = first-accepted asked (readings ∷ fitting ∷ []) e in let r = first-accepted readings (fitting ∷ []) (a .1) in
+            (a .0, r .0, accepted-iff q m steps 0 blocks .0 (first-accepted fitting [] (r .1) .0)),
+        λ t. encode-last c steps h room (rw (t .0, t .1)) ∙ accepted-iff q m steps 0 blocks .1 (t .2),
+      )
+
+  module _ (asked : encodeAsked c steps h room ≡ Accepted) (i : ℕ) (d : Measured) (within : i < length (h .readings)) (before : AllUnits i (h .readings) d) where
+    -- the first reading that is missing is named by 4, whatever the blocks are: so a null in the last block outranks overload in the first
+    pub null-refused : getD (h .readings) i d ≡ measured.Missing → checkEncode c steps h room ≡ Refused (Missing i)
+    null-refused e = encode-refused c steps h room (Missing i) (rw (asked, first-missing i (h .readings) d within before e))
+
+    -- and the first that is out of range by 5
+    pub beyond-refused : getD (h .readings) i d ≡ measured.OutOfRange → checkEncode c steps h room ≡ Refused (OutOfRange i)
+    beyond-refused e = encode-refused c steps h room (OutOfRange i) (rw (asked, first-beyond i (h .readings) d within before e))
+
+-- every NaN pattern of an fvecs record is a missing reading
+pub nan-missing : (b : List ℕ) (i : ℕ) → nanBits binary32 (wordAt b (4 + 4 * i)) ≡ true → measureAt b (4 + 4 * i) ≡ measured.Missing
+nan-missing b i e = float-missing _ (sym (nanBits-is binary32 (wordAt b (4 + 4 * i))) ∙ e)
+
+-- so the first NaN is named by 4
+pub nan-refused : (c : Settings) (steps : List ℤ) (b : List ℕ) (room i : ℕ) → encodeAsked c steps (fvecsHour b) room ≡ Accepted → i < wordAt b 0
+    → ((j : ℕ) → j < i → (X : ℤ) × (measureAt b (4 + 4 * j) ≡ measured.Units X)) → nanBits binary32 (wordAt b (4 + 4 * i)) ≡ true → checkEncode c steps (fvecsHour b) room ≡ Refused (Missing i)
+nan-refused c steps b room i asked h before e = let d : Measured = measured.Missing in
+    null-refused c steps (fvecsHour b) room asked i d (omega (arith, fvecs-count b)) (λ j k. (before j k .0, fvecs-reading b j d (omega arith) ∙ before j k .1)) (fvecs-reading b i d h ∙ nan-missing b i e)
+
+-- ---- what an accepted encoding leaves in the room
+
+module _ (c : Settings) (steps : List ℤ) (h : Hour) (sound : Sound h) (out : List ℕ) (ok : checkEncode c steps h (length out) ≡ Accepted) where
+  abbrev q : ℕ
+  q = natAbs (c .q)
+
+  abbrev m : ℕ
+  m = natAbs (c .m)
+
+  abbrev X : List ℤ
+  X = unitsTaken (h .readings)
+
+  -- the eight readings of block i
+  abbrev part : ℕ → List ℤ
+  part i = take 8 (drop (8 * i) X)
+
+  -- what it says that the hour was accepted
+  accepted : (encodeAsked c steps h (length out) ≡ Accepted) × (checkReadings 0 (h .readings) ≡ Accepted) × AllFitted q m steps (length (inBlocks X)) (inBlocks X)
+  accepted = encode-accepted c steps h (length out) .0 ok
+
+  taken : EncodeTaken c steps h (length out)
+  taken = encode-taken c steps h (length out) sound (rw (accepted .0, accepted .1))
+
+  whole : Whole 8 1 blocksMost (length X)
+  whole = blocks-whole 8 1 blocksMost (length X) (taken .units .whole)
+
+  -- its K blocks, each of eight readings
+  count : length (inBlocks X) ≡ length X / 8
+  count = cut-long 8 (length X / 8) X
+
+  same-count : blocksOf h ≡ length (inBlocks X)
+  same-count = ap (λ (n : ℕ). n / 8) (sym (taken .long)) ∙ sym count
+
+  few : length (inBlocks X) ≤ blocksMost
+  few = omega (arith, count, whole .few)
+
+  block-is : (i : ℕ) → i < length (inBlocks X) → getD (inBlocks X) i [] ≡ part i
+  block-is i k = cut-at 8 (length X / 8) i X (omega (arith, count))
+
+  eight : (i : ℕ) → i < length (inBlocks X) → length (getD (inBlocks X) i []) ≡ 8
+  eight i k = rw (block-is i k) (simp (length-take, length-drop) (omega (arith, count, whole .times)))
+
+  abbrev after : List ℕ
+  after = encodedRoom c steps h out
+
+  abbrev rest : List ℕ
+  rest = drop (length (codeRecord q m steps (inBlocks X))) out
+
+  -- the room: their record, then as found
+  after-is : after ≡ codeRecord q m steps (inBlocks X) ++ rest
+  unfolding encodedRoom
+  after-is = ap (λ (v : Verdict). written v (codeRecord q m steps (inBlocks X)) out) ok
+
+  -- the room is a record that decoding accepts, where there is room for its readings
+  pub room-accepted : (room : ℕ) → fvecsLength (blocksOf h) ≤ room → checkDecode c steps after room ≡ Accepted
+  unfolding encodeAsked
+  room-accepted room k =
+      let roomy : Verdict = unless (leb (codeLength m (blocksOf h)) (length out)) (Size 1) in let b : List ℕ = codeRecord q m steps (inBlocks X) ++ rest in let coder = taken .taken .coder in
+      let s = first-accepted (checkSettings c) (checkSteps 0 steps ∷ h .frame ∷ roomy ∷ []) (accepted .0) in let l = first-accepted (checkSteps 0 steps) (h .frame ∷ roomy ∷ []) (s .1) in
+      let n : blocksIn m b ≡ blocksOf h = record-count q m steps (inBlocks X) rest few (coder .few) ∙ sym same-count in
+      rw after-is (decode-accepted c steps b room (s .0) (l .0) (record-good q m steps (inBlocks X) rest few (coder .few) (omega (arith, count, whole .some))) (omega arith)
+      (encoded-good (c .q) m steps coder (inBlocks X) rest few eight (accepted .2)))
+
+  module _ (i : ℕ) (within : i < blocksOf h) where
+    here : i < length (inBlocks X)
+    here = omega (arith, same-count)
+
+    -- each block of it names the first listed step that fits, and decodes to the nearest point of its eight readings at that step
+    pub room-decodes : let b = getD (codeBlocks m after) i [] in (getD b 0 0 ≡ firstFitting e8 nearest q m steps (part i)) × (wholePoint q m b ≡ pointAt e8 nearest (stepOf steps b) (part i))
+    room-decodes = rw (after-is, ← (block-is i here)) (encode-decodes (c .q) m steps (taken .taken .coder) (inBlocks X) rest few eight (accepted .2) i here)
+
+    -- its bytes are the code of those readings
+    pub room-bytes : take (blockSize m) (drop (4 + blockSize m * i) after) ≡ blockCode e8 nearest q m steps (part i)
+    room-bytes = ap (λ (b : List ℕ). take (blockSize m) (drop (4 + blockSize m * i) b)) after-is ∙ block-bytes q m steps (inBlocks X) rest i here ∙ ap (blockCode e8 nearest q m steps) (block-is i here)
+
+-- so in two accepted encodings with equal settings and steps, a block's bytes depend on its own eight readings alone
+pub room-bytes-same : (c : Settings) (steps : List ℤ) (h h′ : Hour) (out out′ : List ℕ) (i i′ : ℕ) → Sound h → Sound h′
+    → checkEncode c steps h (length out) ≡ Accepted → checkEncode c steps h′ (length out′) ≡ Accepted → i < blocksOf h → i′ < blocksOf h′
+    → take 8 (drop (8 * i) (unitsTaken (h .readings))) ≡ take 8 (drop (8 * i′) (unitsTaken (h′ .readings)))
+    → let n = blockSize (natAbs (c .m)) in take n (drop (4 + n * i) (encodedRoom c steps h out)) ≡ take n (drop (4 + n * i′) (encodedRoom c steps h′ out′))
+room-bytes-same c steps h h′ out out′ i i′ s s′ ok ok′ k k′ e =
+    room-bytes c steps h s out ok i k ∙ ap (blockCode e8 nearest (natAbs (c .q)) (natAbs (c .m)) steps) e ∙ sym (room-bytes c steps h′ s′ out′ ok′ i′ k′)

@@ -1,0 +1,3 @@
+-- Decoding. Definitions stand here; `Laws` holds what is proved of them.
+pub mod Decode
+pub mod Laws

@@ -1,0 +1,2 @@
+-- Proved facts of reports.
+pub mod Report
