@@ -1,8 +1,14 @@
-// The one check of a code record that is scored, by itself or in a store (01, When the unit says no).
+// Code records that are scored: the one check of a record, by itself or in a store, and the point of a block.
 ghost use mathlib.Core.Path.{_≡_};
 ghost use Prim.Native.Nat.{_+_, _^_, _<_, _≤_};
-ghost use lib.ListN.{length};
+ghost use lib.IntN.{natAbs};
+ghost use lib.ListN.{length, drop};
+ghost use Rattle.layers.specs.Digits.{IsCode};
+ghost use Rattle.layers.specs.Sizes.{longPower, Base};
+ghost use Rattle.layers.specs.Table.{TableFor};
+ghost use Rattle.records.specs.Decode.{wholePoint};
 ghost use Rattle.scores.specs.Scores.{checkCode};
+use layers::points;
 use records::codes;
 use records::frames;
 use refusals::Refusal;
@@ -29,4 +35,12 @@ pub fn check_code(
     } else {
         Verdict::Refused(Refusal::Record(place))
     }
+}
+
+// The doubled point of a coded block.
+pub(crate) fn whole_point(t: &[i8], b: &[u8], q: i64, m: usize) -> [i64; 8]
+    requires { ⌜ TableFor (natAbs q) (now t) × Base q × (natAbs q ^ m ≤ longPower) × (1 ≤ length (now b)) × IsCode 8 (natAbs q) m (drop 1 (now b)) ⌝ }
+    ensures { λ r. ⌜ r ≡ wholePoint (natAbs q) m (now (b .entry)) ⌝ }
+{
+    points::decode(t, &b[1..], q, m)
 }

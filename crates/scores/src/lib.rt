@@ -1,4 +1,5 @@
 // Scores of code records (01, Scores).
 pub mod codes;
+pub mod hours;
 pub mod inner;
 pub mod query;
