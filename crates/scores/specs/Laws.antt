@@ -4,3 +4,4 @@ pub mod Inner
 pub mod Sizes
 pub mod Asked
 pub mod Query
+pub mod Pair

@@ -2,4 +2,5 @@
 pub mod codes;
 pub mod hours;
 pub mod inner;
+pub mod pair;
 pub mod query;
