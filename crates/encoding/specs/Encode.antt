@@ -1,12 +1,10 @@
 -- From readings to codes (01, Layers and steps; Bytes).
-use mathlib.Core.Path.{_≡_}
-use mathlib.Core.Bool.{true, cond}
+use mathlib.Core.Bool.{cond}
 use mathlib.Core.List.{List, [], _∷_, _++_, map}
-use Prim.Native.Nat.{ℕ, suc, _*_, _^_}
+use Prim.Native.Nat.{ℕ, suc, _*_}
 use lib.Dec.{leb, ltb}
 use lib.IntN.{ℤ, pos, natAbs}
 use lib.ListN.{length}
-use Rattle.integers.specs.Vectors.{Bounded}
 use Rattle.blocks.specs.Trials.{firstFitting, blockCode}
 use Rattle.layers.specs.Digits.{joined}
 use Rattle.layers.specs.E8.{e8, nearest}
@@ -17,12 +15,10 @@ use Rattle.refusals.specs.declared.Refusal.the-variants.{Size, Overload}
 use Rattle.refusals.specs.declared.Verdict.{Verdict}
 use Rattle.refusals.specs.declared.Verdict.the-variants.{Accepted, Refused}
 use Rattle.refusals.specs.Answers.{valued, written}
-use Rattle.refusals.specs.Limits.{blocksMost}
 use Rattle.refusals.specs.Settings.{checkSettings}
 use Rattle.refusals.specs.Steps.{checkSteps}
 use Rattle.refusals.specs.Verdicts.{unless, firstRefusal}
 use Rattle.records.specs.Codes.{blockSize, codeLength}
-use Rattle.records.specs.Frames.{wholeBlocks}
 use Rattle.records.specs.Vectors.{Hour, checkReadings, unitsTaken, blocksOf, inBlocks}
 
 -- a block that every listed step overloads is refused by its number, counted from k

@@ -2,4 +2,5 @@
 pub mod Encode
 pub mod Fitting
 pub mod Encoded
+pub mod Theorems
 pub mod Blocks

@@ -11,7 +11,6 @@ use crate::codes;
 use crate::inner;
 use layers::table;
 use records::asked;
-use records::decode;
 use refusals::Answer;
 use refusals::Verdict;
 use refusals::settings;
@@ -22,8 +21,8 @@ fn block_pair(t: &[i8], steps: &[i32], b: &[u8], steps2: &[i32], b2: &[u8], q: i
     requires { ⌜ TableFor (natAbs q) (now t) × Coder q m (now steps) × Coder q m (now steps2) × IsBlock (length (now steps)) (natAbs q) m (now b) × IsBlock (length (now steps2)) (natAbs q) m (now b2) ⌝ }
     ensures { λ r. ⌜ r ≡ blockPair (natAbs q) m (now (steps .entry)) (now (steps2 .entry)) (now (b .entry)) (now (b2 .entry)) ⌝ }
 {
-    let s = decode::step_of(steps, b);
-    let s2 = decode::step_of(steps2, b2);
+    let s = records::codes::step_of(steps, b);
+    let s2 = records::codes::step_of(steps2, b2);
     let e = codes::whole_point(t, b, q, m);
     let f = codes::whole_point(t, b2, q, m);
     s * s2 * inner::inner(&e, &f)

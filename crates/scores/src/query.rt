@@ -7,9 +7,8 @@ ghost use Rattle.integers.specs.Vectors.{Sized};
 ghost use Rattle.layers.specs.Digits.{cut};
 ghost use Rattle.layers.specs.Table.{TableFor};
 ghost use Rattle.records.specs.Codes.{Coder, IsBlock, AreBlocks, blockSize};
-ghost use Rattle.records.specs.Encode.{UnitsTaken};
 ghost use Rattle.records.specs.Laws.Asked.{CoderTaken};
-ghost use Rattle.records.specs.Vectors.{unitsHour, fvecsHour};
+ghost use Rattle.records.specs.Vectors.{unitsHour, fvecsHour, UnitsTaken};
 ghost use Rattle.refusals.specs.Answers.{valued};
 ghost use Rattle.scores.specs.Scores.{total, blockQuery, queryTotal, checkCode, queryScore};
 use crate::codes;
@@ -18,7 +17,6 @@ use crate::inner;
 use lattice::lent;
 use layers::table;
 use readings::words;
-use records::decode;
 use refusals::Answer;
 use refusals::Verdict;
 use refusals::settings;
@@ -29,7 +27,7 @@ fn block_query(t: &[i8], steps: &[i32], x: &[i32], b: &[u8], q: i64, m: usize) -
     requires { ⌜ TableFor (natAbs q) (now t) × Coder q m (now steps) × Sized 8 (2 ^ 24) (now x) × IsBlock (length (now steps)) (natAbs q) m (now b) ⌝ }
     ensures { λ r. ⌜ r ≡ blockQuery (natAbs q) m (now (steps .entry)) (now (x .entry)) (now (b .entry)) ⌝ }
 {
-    let s = decode::step_of(steps, b);
+    let s = records::codes::step_of(steps, b);
     let e = codes::whole_point(t, b, q, m);
     s * inner::dot(&lent::widen(x), &e)
 }

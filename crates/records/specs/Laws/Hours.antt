@@ -5,13 +5,14 @@ use mathlib.Core.List.{List, [], _∷_, map}
 use Prim.Native.Nat.{ℕ, zero, suc, _+_, _*_, _<_}
 use native.Mathlib.Omega.{arith}
 use lib.IntN.{ℤ}
-use lib.Ieee.{binary32, ofBits}
+use lib.Ieee.{binary32, ofBits, nanBits}
+use lib.Ieee.Bits.{nanBits-is}
 use lib.ListN.{length, getD, length-map}
 use Rattle.integers.specs.Laws.Loops.{range, range-long, range-at}
 use Rattle.integers.specs.Vectors.{Bounded}
 use Rattle.readings.specs.declared.Measured.{Measured}
 use Rattle.readings.specs.declared.Measured.the-variants as measured
-use Rattle.readings.specs.Laws.Taking.{units-in-range, units-same, float-in-range}
+use Rattle.readings.specs.Laws.Taking.{units-in-range, units-same, float-in-range, float-missing}
 use Rattle.readings.specs.Taking.{unitsMost, measureUnits, InRange}
 use Rattle.readings.specs.Words.{wordAt, measureAt}
 use Rattle.refusals.specs.declared.Refusal.the-variants.{Size, Record}
@@ -80,3 +81,7 @@ units-taken i (z ∷ x) e = go (measureUnits z) refl e (units-taken (suc i) x)
         cons p q = cc
     go measured.Missing m e rest = refused-never e
     go measured.OutOfRange m e rest = refused-never e
+
+-- every NaN pattern of an fvecs record is a missing reading
+pub word-missing : (b : List ℕ) (i : ℕ) → nanBits binary32 (wordAt b (4 + 4 * i)) ≡ true → measureAt b (4 + 4 * i) ≡ measured.Missing
+word-missing b i e = float-missing _ (sym (nanBits-is binary32 (wordAt b (4 + 4 * i))) ∙ e)

@@ -7,13 +7,12 @@ use native.Mathlib.Omega.{arith}
 use lib.IntN.{ℤ}
 use lib.ListN.{length, getD, drop}
 use Rattle.records.specs.Codes.{IsBlock, blockSize, blocksIn, codeBlocks, checkFrame, checkBlocks}
-use Rattle.records.specs.Encode.{UnitsTaken}
 use Rattle.records.specs.Frames.{wholeBlocks, goodRecord}
 use Rattle.records.specs.Laws.Asked.{CoderTaken, coder-taken, RecordTaken, record-taken}
 use Rattle.records.specs.Laws.Frames.{Framed, record-framed}
 use Rattle.records.specs.Laws.Hours.{Sound, units-small, taken-all}
 use Rattle.records.specs.Laws.Parts.{cut-at}
-use Rattle.records.specs.Vectors.{Hour, fvecsHour, checkReadings, unitsTaken}
+use Rattle.records.specs.Vectors.{Hour, fvecsHour, checkReadings, unitsTaken, UnitsTaken}
 use Rattle.refusals.specs.declared.settings.Settings.{Settings}
 use Rattle.refusals.specs.declared.Refusal.the-variants.{Record}
 use Rattle.refusals.specs.declared.Verdict.{Verdict}

@@ -14,8 +14,7 @@ use Rattle.layers.specs.Laws.Bases.{base-two}
 use Rattle.layers.specs.Laws.E8.{decode-in8, decode-small8}
 use Rattle.layers.specs.Laws.Widths.{width-less}
 use Rattle.layers.specs.Sizes.{width}
-use Rattle.records.specs.Codes.{Coder, IsBlock}
-use Rattle.records.specs.Decode.{stepOf, wholePoint}
+use Rattle.records.specs.Codes.{Coder, IsBlock, stepOf, wholePoint}
 use Rattle.records.specs.Laws.Asked.{coder-positive}
 use Rattle.refusals.specs.Limits.{stepMost}
 use Rattle.scores.specs.Laws.Inner.{inner-size}

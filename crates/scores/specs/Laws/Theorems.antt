@@ -17,12 +17,10 @@ use Rattle.layers.specs.Digits.{joined}
 use Rattle.readings.specs.declared.Measured.{Measured}
 use Rattle.readings.specs.declared.Measured.the-variants as measured
 use Rattle.readings.specs.Words.{wordAt, measureAt}
-use Rattle.records.specs.Codes.{IsBlock, blockSize, blocksIn, codeBlocks}
-use Rattle.records.specs.Decode.{stepOf, wholePoint}
+use Rattle.records.specs.Codes.{IsBlock, blockSize, blocksIn, codeBlocks, stepOf, wholePoint}
 use Rattle.records.specs.Laws.Frames.{Whole, blocks-whole}
-use Rattle.records.specs.Laws.Hours.{Sound, fvecs-count, fvecs-reading}
+use Rattle.records.specs.Laws.Hours.{Sound, fvecs-count, fvecs-reading, word-missing}
 use Rattle.records.specs.Laws.Parts.{cut-long, cut-at}
-use Rattle.records.specs.Laws.Theorems.{nan-missing}
 use Rattle.records.specs.Laws.Vectors.{AllUnits, first-missing, first-beyond}
 use Rattle.records.specs.Vectors.{Hour, fvecsHour, unitsTaken, blocksOf, inBlocks}
 use Rattle.refusals.specs.declared.settings.Settings.{Settings}
@@ -218,4 +216,4 @@ module _ (c : Settings) (steps : List ℤ) (h : Hour) (b : List ℕ) (asked : fi
 pub nan-refused : (c : Settings) (steps : List ℤ) (r b : List ℕ) (i : ℕ) → firstRefusal (checkSettings c ∷ checkSteps 0 steps ∷ fvecsHour r .frame ∷ []) ≡ Accepted → i < wordAt r 0
     → ((j : ℕ) → j < i → (X : ℤ) × (measureAt r (4 + 4 * j) ≡ measured.Units X)) → nanBits binary32 (wordAt r (4 + 4 * i)) ≡ true → checkQuery c steps (fvecsHour r) b ≡ Refused (Missing i)
 nan-refused c steps r b i asked h before e = let d : Measured = measured.Missing in
-    null-refused c steps (fvecsHour r) b asked i d (omega (arith, fvecs-count r)) (λ j k. (before j k .0, fvecs-reading r j d (omega arith) ∙ before j k .1)) (fvecs-reading r i d h ∙ nan-missing r i e)
+    null-refused c steps (fvecsHour r) b asked i d (omega (arith, fvecs-count r)) (λ j k. (before j k .0, fvecs-reading r j d (omega arith) ∙ before j k .1)) (fvecs-reading r i d h ∙ word-missing r i e)

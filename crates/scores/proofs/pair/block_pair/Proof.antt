@@ -9,7 +9,7 @@ use mir.Val.{SFits, toZ, ofZ}
 use mir.Facts.{toZ-ofZ}
 use Rattle.integers.specs.Laws.Sizes.{fits-abs}
 use Rattle.integers.specs.Vectors.{Sized}
-use Rattle.records.specs.Decode.{stepOf, wholePoint}
+use Rattle.records.specs.Codes.{stepOf, wholePoint}
 use Rattle.scores.specs.Laws.Sizes.{point-small, steps-small, blockPair-most}
 use Rattle.scores.specs.Scores.{inner, blockPair}
 use Rattle.scores.proofs.pair.block_pair.Statement.{statement}

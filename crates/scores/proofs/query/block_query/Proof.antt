@@ -9,7 +9,7 @@ use mir.Val.{SFits}
 use mir.Facts.{toZ-ofZ}
 use Rattle.integers.specs.Laws.Sizes.{fits-abs}
 use Rattle.integers.specs.Vectors.{dot, Sized}
-use Rattle.records.specs.Decode.{wholePoint}
+use Rattle.records.specs.Codes.{wholePoint}
 use Rattle.scores.specs.Laws.Sizes.{point-small, blockQuery-most}
 use Rattle.scores.specs.Scores.{blockQuery}
 use Rattle.scores.proofs.query.block_query.Statement.{statement}

@@ -8,9 +8,8 @@ use lib.IntN.{ℤ, natAbs}
 use lib.ListN.{length, take, drop, length-append}
 use lib.Seq.{take-at}
 use Rattle.integers.specs.Vectors.{zeros}
-use Rattle.records.specs.Encode.{UnitsTaken}
 use Rattle.records.specs.Laws.Hours.{fvecs-sound, fvecs-count}
-use Rattle.records.specs.Vectors.{Hour, fvecsHour, unitsTaken}
+use Rattle.records.specs.Vectors.{Hour, fvecsHour, unitsTaken, UnitsTaken}
 use Rattle.refusals.specs.declared.Verdict.the-variants.{Accepted}
 use Rattle.refusals.specs.Answers.{valued}
 use Rattle.scores.specs.Hours.{checkHour}

@@ -5,9 +5,8 @@ use mathlib.Core.List.{List}
 use lib.IntN.{ℤ}
 use lib.ListN.{length-map}
 use Rattle.readings.specs.Taking.{measureUnits}
-use Rattle.records.specs.Encode.{UnitsTaken}
 use Rattle.records.specs.Laws.Hours.{units-sound, units-taken}
-use Rattle.records.specs.Vectors.{Hour, unitsHour, unitsTaken}
+use Rattle.records.specs.Vectors.{Hour, unitsHour, unitsTaken, UnitsTaken}
 use Rattle.refusals.specs.declared.Verdict.the-variants.{Accepted}
 use Rattle.scores.specs.Hours.{checkHour}
 use Rattle.scores.specs.Laws.Asked.{HourTaken, hour-taken}
