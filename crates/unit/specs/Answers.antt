@@ -8,12 +8,12 @@ use Rattle.refusals.specs.declared.settings.Settings.{Settings}
 use Rattle.refusals.specs.Verdicts.{numberOf, placeOf}
 use Rattle.lattice.specs.declared.PointAnswer.{PointAnswer}
 use Rattle.reports.specs.declared.ReportAnswer.{ReportAnswer}
-use Rattle.unit.specs.declared.EkAnswer.{EkAnswer}
-use Rattle.unit.specs.declared.EkPoint.{EkPoint}
-use Rattle.unit.specs.declared.EkReading.{EkReading}
-use Rattle.unit.specs.declared.EkReportAnswer.{EkReportAnswer}
-use Rattle.unit.specs.declared.EkSettings.{EkSettings}
-use Rattle.unit.specs.declared.EkTaken.{EkTaken}
+use Rattle.unit.specs.declared.answers.EkAnswer.{EkAnswer}
+use Rattle.unit.specs.declared.answers.EkPoint.{EkPoint}
+use Rattle.unit.specs.declared.answers.EkReading.{EkReading}
+use Rattle.unit.specs.declared.answers.EkReportAnswer.{EkReportAnswer}
+use Rattle.unit.specs.declared.answers.EkSettings.{EkSettings}
+use Rattle.unit.specs.declared.answers.EkTaken.{EkTaken}
 
 -- settings
 abbrev pub settings : EkSettings → Settings

@@ -5,8 +5,8 @@ use Rattle.refusals.specs.declared.settings.Settings.{Settings}
 use lib.ListN.{length}
 use Rattle.layers.specs.Answers.{coded, digitRoom}
 use Rattle.unit.specs.Answers.{pointOut}
-use Rattle.unit.proofs.ek_digits_of_point.Statement.{statement}
-use Rattle.unit.proofs.ek_digits_of_point.Tie as tie
+use Rattle.unit.proofs.bench.ek_digits_of_point.Statement.{statement}
+use Rattle.unit.proofs.bench.ek_digits_of_point.Tie as tie
 
 settings-in-requires : tie.Need-settings-in-requires
 settings-in-requires c κs = search needs

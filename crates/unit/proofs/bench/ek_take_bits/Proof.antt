@@ -2,8 +2,8 @@
 use mathlib.Core.Path.{_∙_, ap}
 use borrow.Author.Needs.{needs}
 use Rattle.unit.specs.Answers.{takenOut}
-use Rattle.unit.proofs.ek_take_bits.Statement.{statement}
-use Rattle.unit.proofs.ek_take_bits.Tie as tie
+use Rattle.unit.proofs.bench.ek_take_bits.Statement.{statement}
+use Rattle.unit.proofs.bench.ek_take_bits.Tie as tie
 
 take-bits-requires : tie.Need-take-bits-requires
 take-bits-requires c κs = search needs

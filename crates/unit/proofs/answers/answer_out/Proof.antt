@@ -5,8 +5,8 @@ use borrow.Author.Needs.{needs}
 use mir.Syntax.{w64}
 use mir.Val.{SFits}
 use mir.Facts.{toZ-ofZ}
-use Rattle.unit.proofs.answer_out.Statement.{statement}
-use Rattle.unit.proofs.answer_out.Tie as tie
+use Rattle.unit.proofs.answers.answer_out.Statement.{statement}
+use Rattle.unit.proofs.answers.answer_out.Tie as tie
 
 number-of-requires : tie.Need-number-of-requires
 number-of-requires c κs = search needs

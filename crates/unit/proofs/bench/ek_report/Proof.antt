@@ -7,8 +7,8 @@ use Rattle.reports.specs.declared.ReportAnswer.{ReportAnswer}
 use Rattle.reports.specs.Laws.Report.{report-long}
 use Rattle.reports.specs.Report.{report}
 use Rattle.unit.specs.Answers.{reportOut}
-use Rattle.unit.proofs.ek_report.Statement.{statement}
-use Rattle.unit.proofs.ek_report.Tie as tie
+use Rattle.unit.proofs.bench.ek_report.Statement.{statement}
+use Rattle.unit.proofs.bench.ek_report.Tie as tie
 
 settings-in-requires : tie.Need-settings-in-requires
 settings-in-requires c κs = search needs

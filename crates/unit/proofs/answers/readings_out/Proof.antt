@@ -6,8 +6,8 @@ use native.Mathlib.Omega.{arith}
 use borrow.Author.Needs.{needs}
 use Rattle.integers.specs.Laws.Loops.{Filled, filled-more, filled-all}
 use Rattle.unit.specs.Answers.{readingOut}
-use Rattle.unit.proofs.readings_out.Statement.{statement}
-use Rattle.unit.proofs.readings_out.Tie as tie
+use Rattle.unit.proofs.answers.readings_out.Statement.{statement}
+use Rattle.unit.proofs.answers.readings_out.Tie as tie
 
 abbrev Inv-loop : tie.InvT-loop
 Inv-loop given out₀ i₀ out i = Filled readingOut 8 given i out

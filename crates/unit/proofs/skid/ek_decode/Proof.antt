@@ -5,8 +5,8 @@ use Rattle.refusals.specs.declared.settings.Settings.{Settings}
 use lib.ListN.{length}
 use Rattle.decoding.specs.Decode.{decoded, decodedRoom}
 use Rattle.unit.specs.Answers.{answerOut}
-use Rattle.unit.proofs.ek_decode.Statement.{statement}
-use Rattle.unit.proofs.ek_decode.Tie as tie
+use Rattle.unit.proofs.skid.ek_decode.Statement.{statement}
+use Rattle.unit.proofs.skid.ek_decode.Tie as tie
 
 settings-in-requires : tie.Need-settings-in-requires
 settings-in-requires c κs = search needs

@@ -4,8 +4,8 @@ use borrow.Author.Needs.{needs}
 use Rattle.refusals.specs.declared.settings.Settings.{Settings}
 use Rattle.layers.specs.Answers.{decoded}
 use Rattle.unit.specs.Answers.{pointOut}
-use Rattle.unit.proofs.ek_point_of_digits.Statement.{statement}
-use Rattle.unit.proofs.ek_point_of_digits.Tie as tie
+use Rattle.unit.proofs.bench.ek_point_of_digits.Statement.{statement}
+use Rattle.unit.proofs.bench.ek_point_of_digits.Tie as tie
 
 settings-in-requires : tie.Need-settings-in-requires
 settings-in-requires c κs = search needs

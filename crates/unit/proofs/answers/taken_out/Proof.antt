@@ -5,10 +5,10 @@ use native.Mathlib.Omega.{arith}
 use borrow.Author.Needs.{needs}
 use lib.Ieee.{Float, ofBits}
 use Rattle.readings.specs.Laws.Exact.{fraction-zero}
-use Rattle.unit.specs.declared.EkTaken.{EkTaken}
+use Rattle.unit.specs.declared.answers.EkTaken.{EkTaken}
 use Rattle.unit.specs.Answers.{takenOut}
-use Rattle.unit.proofs.taken_out.Statement.{statement}
-use Rattle.unit.proofs.taken_out.Tie as tie
+use Rattle.unit.proofs.answers.taken_out.Statement.{statement}
+use Rattle.unit.proofs.answers.taken_out.Tie as tie
 
 -- no value: the number alone, and +0.0
 none : ℕ → Float → EkTaken

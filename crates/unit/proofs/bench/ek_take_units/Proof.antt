@@ -3,8 +3,8 @@ use mathlib.Core.Path.{_∙_, ap}
 use borrow.Author.Needs.{needs}
 use mir.Facts.{toZ-ofZ}
 use Rattle.unit.specs.Answers.{takenOut}
-use Rattle.unit.proofs.ek_take_units.Statement.{statement}
-use Rattle.unit.proofs.ek_take_units.Tie as tie
+use Rattle.unit.proofs.bench.ek_take_units.Statement.{statement}
+use Rattle.unit.proofs.bench.ek_take_units.Tie as tie
 
 take-units-requires : tie.Need-take-units-requires
 take-units-requires c κs = search needs

@@ -4,9 +4,9 @@ use mathlib.Core.List.{List}
 use Prim.Native.Nat.{ℕ}
 use borrow.Author.Needs.{needs}
 use Rattle.refusals.specs.Verdicts.{numberOf, placeOf}
-use Rattle.unit.specs.declared.EkReading.{EkReading}
-use Rattle.unit.proofs.report_out.Statement.{statement}
-use Rattle.unit.proofs.report_out.Tie as tie
+use Rattle.unit.specs.declared.answers.EkReading.{EkReading}
+use Rattle.unit.proofs.answers.report_out.Statement.{statement}
+use Rattle.unit.proofs.answers.report_out.Tie as tie
 
 number-of-requires : tie.Need-number-of-requires
 number-of-requires c κs = search needs

@@ -6,8 +6,8 @@ use lib.ListN.{length}
 use Rattle.encoding.specs.Encode.{encoded, encodedRoom}
 use Rattle.records.specs.Vectors.{unitsHour}
 use Rattle.unit.specs.Answers.{answerOut}
-use Rattle.unit.proofs.ek_encode_units.Statement.{statement}
-use Rattle.unit.proofs.ek_encode_units.Tie as tie
+use Rattle.unit.proofs.skid.ek_encode_units.Statement.{statement}
+use Rattle.unit.proofs.skid.ek_encode_units.Tie as tie
 
 settings-in-requires : tie.Need-settings-in-requires
 settings-in-requires c κs = search needs

@@ -3,8 +3,8 @@ use mathlib.Core.Path.{_∙_, ap}
 use borrow.Author.Needs.{needs}
 use mir.Facts.{toZ-ofZ}
 use Rattle.unit.specs.Answers.{pointOut}
-use Rattle.unit.proofs.ek_nearest.Statement.{statement}
-use Rattle.unit.proofs.ek_nearest.Tie as tie
+use Rattle.unit.proofs.bench.ek_nearest.Statement.{statement}
+use Rattle.unit.proofs.bench.ek_nearest.Tie as tie
 
 nearest-requires : tie.Need-nearest-requires
 nearest-requires c κs = search needs

@@ -2,8 +2,8 @@
 use mathlib.Core.Path.{ap₂}
 use Prim.Native.Nat.{ℕ}
 use borrow.Author.Needs.{needs}
-use Rattle.unit.proofs.point_out.Statement.{statement}
-use Rattle.unit.proofs.point_out.Tie as tie
+use Rattle.unit.proofs.answers.point_out.Statement.{statement}
+use Rattle.unit.proofs.answers.point_out.Tie as tie
 
 number-of-requires : tie.Need-number-of-requires
 number-of-requires c κs = search needs

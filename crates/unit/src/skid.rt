@@ -1,0 +1,42 @@
+// For the skid: hours as records, scores, tables, the best hour of a store.
+ghost use mathlib.Core.Path.{_≡_};
+ghost use lib.ListN.{length};
+ghost use Rattle.decoding.specs.Decode.{decoded, decodedRoom};
+ghost use Rattle.encoding.specs.Encode.{encoded, encodedRoom};
+ghost use Rattle.records.specs.Vectors.{unitsHour, fvecsHour};
+ghost use Rattle.unit.specs.Answers.{settings, answerOut};
+use crate::answers;
+use crate::answers::EkAnswer;
+use crate::answers::EkSettings;
+
+// Codes an hour that is an fvecs record as a bvecs record at the front of the lent bytes (01, Bytes).
+#[no_mangle]
+pub extern "C" fn ek_encode(s: EkSettings, steps: &[i32], hour: &[u8], out: &mut [u8]) -> EkAnswer
+    ensures answer { λ r. ⌜ r ≡ answerOut (encoded (settings s) (now (steps .entry)) (fvecsHour (now (hour .entry))) (length (now (out .entry)))) ⌝ }
+    ensures room { λ _. ⌜ now (out .exit) ≡ encodedRoom (settings s) (now (steps .entry)) (fvecsHour (now (hour .entry))) (now (out .entry)) ⌝ }
+{
+    answers::answer_out(encoding::encode(answers::settings_in(s), steps, hour, out))
+}
+
+// The same of an hour in whole units of 1/1024.
+#[no_mangle]
+pub extern "C" fn ek_encode_units(
+    s: EkSettings,
+    steps: &[i32],
+    units: &[i32],
+    out: &mut [u8],
+) -> EkAnswer
+    ensures answer { λ r. ⌜ r ≡ answerOut (encoded (settings s) (now (steps .entry)) (unitsHour (now (units .entry))) (length (now (out .entry)))) ⌝ }
+    ensures room { λ _. ⌜ now (out .exit) ≡ encodedRoom (settings s) (now (steps .entry)) (unitsHour (now (units .entry))) (now (out .entry)) ⌝ }
+{
+    answers::answer_out(encoding::encode_units(answers::settings_in(s), steps, units, out))
+}
+
+// Decodes a bvecs record as an fvecs record at the front of the lent bytes.
+#[no_mangle]
+pub extern "C" fn ek_decode(s: EkSettings, steps: &[i32], code: &[u8], out: &mut [u8]) -> EkAnswer
+    ensures answer { λ r. ⌜ r ≡ answerOut (decoded (settings s) (now (steps .entry)) (now (code .entry)) (length (now (out .entry)))) ⌝ }
+    ensures room { λ _. ⌜ now (out .exit) ≡ decodedRoom (settings s) (now (steps .entry)) (now (code .entry)) (now (out .entry)) ⌝ }
+{
+    answers::answer_out(decoding::decode(answers::settings_in(s), steps, code, out))
+}
