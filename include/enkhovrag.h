@@ -78,7 +78,7 @@ ek_point ek_point_of_digits(ek_settings settings, const uint8_t *digits, size_t 
  * binary32 of four bytes, least byte first. A bvecs record holds codes: K(8m+1), then for each block T and its 8m digits, layer 0
  * first. Bytes of an input past its record are not read; bytes of out past the record that is written stay. */
 
-/* An answer that is one whole number: here the number of bytes written to out. */
+/* An answer that is one whole number: how many bytes or entries were written, or a score. */
 typedef struct {
     uint64_t number, place;
     int64_t value;
@@ -122,6 +122,86 @@ typedef struct {
  * Refuses 1 (place 0) unless the settings are allowed; 2 (place 0) unless the step list keeps its rule; 3 (place 0) if units_len is
  * not 8; 5 (place i) if units[i] is the first past 2^24 in magnitude; 6 (place 0) if no step of the list fits. */
 ek_report_answer ek_report(ek_settings settings, const int32_t *steps, size_t steps_len, const int32_t *units, size_t units_len);
+
+/* ---- scores
+ *
+ * The whole point of a coded block is the doubled point e of its digits; s is the step that its T names. Every score is exact. */
+
+/* The pair score of two bvecs records of as many blocks, each with its own step list: the sum over blocks of s0 s1 times the inner
+ * product of their whole points, not doubled, in units of 1/1024 squared.
+ * Refuses 1 (place 0) unless the settings are allowed; 2 (place 0 or 1) unless steps0 and then steps1 keep the rule; then for
+ * record0 10 (place 0) if record0_len is below 4, the dimension is not K(8m+1) with K from 1 to 64 or record0_len is below 4 plus
+ * the dimension, and 7 (place i) if byte i after the dimension is the first that is a digit not below q or a T past the list; then
+ * the same for record1, whose K must be that of record0. */
+ek_answer ek_pair_score(ek_settings settings, const int32_t *steps0, size_t steps0_len, const uint8_t *record0, size_t record0_len,
+                        const int32_t *steps1, size_t steps1_len, const uint8_t *record1, size_t record1_len);
+
+/* The query score of the readings of an fvecs record with a bvecs record: the sum over blocks of s times the sum of X[i] e[i], X the
+ * readings in whole units, in halves of 1/1024 squared.
+ * Refuses 1 (place 0) unless the settings are allowed; 2 (place 0) unless the step list keeps its rule; 10 (place 0), 4 (place i)
+ * and 5 (place i) for the query as ek_encode does; then for the record 10 (place 0) if it is cut short or its dimension is not
+ * K(8m+1) with the K of the query, and 7 (place i) as ek_decode does. */
+ek_answer ek_query_score(ek_settings settings, const int32_t *steps, size_t steps_len, const uint8_t *query, size_t query_len,
+                         const uint8_t *record, size_t record_len);
+
+/* ---- tables
+ *
+ * Layers are looked up by their entry number: digit k of eight, counted from 0, times q^k, together. Entries past the last one
+ * filled stay; a refusal leaves the whole table as found. */
+
+/* Fills the pair table, for q = 2 only: entry 256 i + j is the inner product of the layer points with the entry numbers i and j, not
+ * doubled. Answers 65536.
+ * Refuses 1 (place 0) unless the settings are allowed; 8 (place 0) if q is not 2; 3 (place 2) if table_len is below 65536. */
+ek_answer ek_fill_pair_table(ek_settings settings, int8_t *table, size_t table_len);
+
+/* Fills the query table of the readings of an fvecs record, for q = 2, 3 and 4: block k has the q^8 entries from k q^8 on, and entry
+ * i of them is the sum of X[j] l[j], l the doubled layer point with the entry number i. Answers K q^8.
+ * Refuses 1 (place 0) unless the settings are allowed; 8 (place 0) if q is past 4; 10 (place 0) for the query as ek_encode does;
+ * 3 (place 2) if table_len is below K q^8; 4 (place i) and 5 (place i) for the query's readings as ek_encode does. */
+ek_answer ek_fill_query_table(ek_settings settings, const uint8_t *query, size_t query_len, int32_t *table, size_t table_len);
+
+/* The pair score by a table of 65536 entries, for q = 2 only: it sums what the table holds, whatever that is, entry 256 i + j for
+ * layer i of record0 and j of record1 weighted by q to the sum of the layers' numbers and by both steps. Over a table that
+ * ek_fill_pair_table filled it is the pair score.
+ * Refuses 1 and 2 as ek_pair_score does; 8 (place 0) if q is not 2; 3 (place 2) if table_len is below 65536; then 10 and 7 as
+ * ek_pair_score does. */
+ek_answer ek_pair_score_by_table(ek_settings settings, const int32_t *steps0, size_t steps0_len, const uint8_t *record0,
+                                 size_t record0_len, const int32_t *steps1, size_t steps1_len, const uint8_t *record1,
+                                 size_t record1_len, const int8_t *table, size_t table_len);
+
+/* The query score by a table of K q^8 entries, for q = 2, 3 and 4: it sums what the table holds, whatever that is, weighted by q^k for
+ * layer k and by the steps. Over a table that ek_fill_query_table filled it is the query score.
+ * Refuses 1 (place 0) unless the settings are allowed; 2 (place 0) unless the step list keeps its rule; 8 (place 0) if q is past 4;
+ * 10 (place 0) for the record as ek_decode does; 3 (place 2) if table_len is below K q^8, K the record's; 7 (place i) as ek_decode
+ * does. */
+ek_answer ek_query_score_by_table(ek_settings settings, const int32_t *steps, size_t steps_len, const uint8_t *record,
+                                  size_t record_len, const int32_t *table, size_t table_len);
+
+/* ---- a store
+ *
+ * A store is bvecs records one after the other, to the buffer's end. */
+
+/* The best hour: the number of a stored record, from 0, and its query score. */
+typedef struct {
+    uint64_t number, place, hour;
+    int64_t score;
+} ek_hour;
+
+/* The stored record with the greatest query score, the earliest of equals.
+ * Refuses 1 (place 0) unless the settings are allowed; 2 (place 0) unless the step list keeps its rule; 10 (place 0), 4 (place i)
+ * and 5 (place i) for the query as ek_encode does; 11 (place 0) if the store has no byte; then for each stored record in turn
+ * 10 (place o), o the offset of the record in the store, if it is cut short or its dimension is not K(8m+1) with the K of the
+ * query, and 7 (place o + 4 + i) if its byte i after the dimension is the first that is a digit not below q or a T past the list.
+ * Every record is checked, also those after the best one. */
+ek_hour ek_best_hour(ek_settings settings, const int32_t *steps, size_t steps_len, const uint8_t *query, size_t query_len,
+                     const uint8_t *store, size_t store_len);
+
+/* The same answer by a table that is filled in the lent room and then holds what ek_fill_query_table leaves; for q = 2, 3 and 4.
+ * Where thousands of hours are stored it is the faster way.
+ * Refuses as ek_best_hour does, and after 2: 8 (place 0) if q is past 4; after the query's 10: 3 (place 2) if table_len is below
+ * K q^8. */
+ek_hour ek_best_hour_with_table(ek_settings settings, const int32_t *steps, size_t steps_len, const uint8_t *query,
+                                size_t query_len, const uint8_t *store, size_t store_len, int32_t *table, size_t table_len);
 
 #ifdef __cplusplus
 }
