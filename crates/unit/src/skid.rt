@@ -4,6 +4,7 @@ ghost use lib.ListN.{length};
 ghost use Rattle.decoding.specs.Decode.{decoded, decodedRoom};
 ghost use Rattle.encoding.specs.Encode.{encoded, encodedRoom};
 ghost use Rattle.records.specs.Vectors.{unitsHour, fvecsHour};
+ghost use Rattle.scores.specs.Scores.{pairScore, queryScore};
 ghost use Rattle.unit.specs.Answers.{settings, answerOut};
 use crate::answers;
 use crate::answers::EkAnswer;
@@ -39,4 +40,37 @@ pub extern "C" fn ek_decode(s: EkSettings, steps: &[i32], code: &[u8], out: &mut
     ensures room { λ _. ⌜ now (out .exit) ≡ decodedRoom (settings s) (now (steps .entry)) (now (code .entry)) (now (out .entry)) ⌝ }
 {
     answers::answer_out(decoding::decode(answers::settings_in(s), steps, code, out))
+}
+
+// The pair score of two bvecs records, each with its own steps (01, Scores).
+#[no_mangle]
+pub extern "C" fn ek_pair_score(
+    s: EkSettings,
+    steps0: &[i32],
+    record0: &[u8],
+    steps1: &[i32],
+    record1: &[u8],
+) -> EkAnswer
+    ensures { λ r. ⌜ r ≡ answerOut (pairScore (settings s) (now (steps0 .entry)) (now (record0 .entry)) (now (steps1 .entry)) (now (record1 .entry))) ⌝ }
+{
+    answers::answer_out(scores::pair::pair_score(
+        answers::settings_in(s),
+        steps0,
+        record0,
+        steps1,
+        record1,
+    ))
+}
+
+// The query score of an fvecs record with a bvecs record.
+#[no_mangle]
+pub extern "C" fn ek_query_score(
+    s: EkSettings,
+    steps: &[i32],
+    query: &[u8],
+    code: &[u8],
+) -> EkAnswer
+    ensures { λ r. ⌜ r ≡ answerOut (queryScore (settings s) (now (steps .entry)) (fvecsHour (now (query .entry))) (now (code .entry))) ⌝ }
+{
+    answers::answer_out(scores::query::query_score(answers::settings_in(s), steps, query, code))
 }
