@@ -1,12 +1,13 @@
 // What is refused where a point is coded or decoded by itself, in the order of the checks.
 ghost use mathlib.Core.Path.{_≡_};
 ghost use mathlib.Core.Bool.{_&&_};
-ghost use Prim.Native.Nat.{_+_, _<_, _^_};
+ghost use Prim.Native.Nat.{suc, _+_, _^_, _<_, _≤_};
 ghost use lib.ListN.{length};
 ghost use Rattle.integers.specs.Vectors.{small};
 ghost use Rattle.refusals.specs.Limits.{pointMost};
 ghost use Rattle.lattice.specs.Doubled.{isPoint};
 ghost use Rattle.layers.specs.Answers.{checkPoint, checkBelow, checkDigits};
+ghost use Rattle.layers.specs.Digits.{Below};
 use refusals::Refusal;
 use refusals::Verdict;
 use refusals::settings;
@@ -46,8 +47,27 @@ pub fn check_point(s: Settings, e: &[i32], room: usize) -> Verdict
     }
 }
 
-// Refusal 7 with the place of the first digit that is not below q, where the first digit's place is `first`.
-pub fn check_below(ds: &[u8], q: usize, first: usize) -> Verdict
+fn larger(a: u8, b: u8) -> u8
+    ensures { λ r. ⌜ (a ≤ r) × (b ≤ r) ⌝ }
+{
+    if a < b { b } else { a }
+}
+
+// A number that no digit is past: the greatest of them, found without a jump for each.
+fn greatest(ds: &[u8]) -> u8
+    ensures { λ r. ⌜ Below (suc r) (now (ds .entry)) ⌝ }
+{
+    let mut top: u8 = 0;
+    let mut i: usize = 0;
+    while i < ds.len() {
+        top = larger(top, ds[i]);
+        i = i + 1;
+    }
+    top
+}
+
+// Refusal 7 with the place of the first digit that is not below q, where the first digit's place is `first`: digit by digit.
+fn first_above(ds: &[u8], q: usize, first: usize) -> Verdict
     requires { ⌜ first + length (now ds) < 2 ^ 64 ⌝ }
     ensures { λ r. ⌜ r ≡ checkBelow q first (now (ds .entry)) ⌝ }
 {
@@ -59,6 +79,17 @@ pub fn check_below(ds: &[u8], q: usize, first: usize) -> Verdict
         i = i + 1;
     }
     Verdict::Accepted
+}
+
+// The same at a glance: most digits are good.
+pub fn check_below(ds: &[u8], q: usize, first: usize) -> Verdict
+    requires { ⌜ first + length (now ds) < 2 ^ 64 ⌝ }
+    ensures { λ r. ⌜ r ≡ checkBelow q first (now (ds .entry)) ⌝ }
+{
+    if (greatest(ds) as usize) < q {
+        return Verdict::Accepted;
+    }
+    first_above(ds, q, first)
 }
 
 // Refusal 1 for the settings, 3 where there are not exactly 8 M digits, 7 where one is not below q.

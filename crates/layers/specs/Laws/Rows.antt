@@ -1,7 +1,7 @@
 -- Layers in one row: cut apart and joined, they are the same; and digits below q stay so.
 use mathlib.Core.Path.{_≡_, refl, _∙_, ap, ap₂}
 use mathlib.Core.List.{List, [], _∷_, _++_}
-use Prim.Native.Nat.{ℕ, zero, suc, _*_, _<_}
+use Prim.Native.Nat.{ℕ, zero, suc, _*_, _<_, _≤_}
 use native.Mathlib.Omega.{arith}
 use lib.ListN.{length, getD, take, drop, length-append, length-take, length-drop, take-append-drop}
 use lib.Seq.{take-at, drop-at}
@@ -26,6 +26,14 @@ module _ (q : ℕ) where
   below-at [] h i l = absurd (omega arith)
   below-at (d ∷ a) h zero l = h .0
   below-at (d ∷ a) h (suc i) l = below-at a (h .1) i (omega arith)
+
+  pub below-all : (a : List ℕ) → ((i : ℕ) → i < length a → getD a i 0 < q) → Below q a
+  below-all [] h = tt
+  below-all (d ∷ a) h = (h 0 (omega arith), below-all a (λ i l. h (suc i) (omega arith)))
+
+pub below-more : (q p : ℕ) → q ≤ p → (a : List ℕ) → Below q a → Below p a
+below-more q p h [] k = tt
+below-more q p h (d ∷ a) k = (omega (arith, k .0), below-more q p h a (k .1))
 
 module _ (n q : ℕ) where
   pub cut-joined : (m : ℕ) (l : List (List ℕ)) → IsLayers n q m l → cut n m (joined l) ≡ l
