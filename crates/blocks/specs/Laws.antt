@@ -2,4 +2,3 @@
 pub mod Fitting
 pub mod Sizes
 pub mod Theorems
-pub mod Blocks

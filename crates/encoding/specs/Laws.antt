@@ -3,4 +3,3 @@ pub mod Encode
 pub mod Fitting
 pub mod Encoded
 pub mod Theorems
-pub mod Blocks

@@ -8,7 +8,6 @@ pub mod Close
 pub mod Member
 pub mod Theorems
 pub mod Asked
-pub mod Blocks
 pub mod Equals
 pub mod Tables
 pub mod Rows

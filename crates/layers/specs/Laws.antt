@@ -13,4 +13,3 @@ pub mod Bases
 pub mod E8
 pub mod Table
 pub mod Asked
-pub mod Blocks

@@ -7,4 +7,3 @@ pub mod Asked
 pub mod Query
 pub mod Pair
 pub mod Theorems
-pub mod Blocks

@@ -1,0 +1,2 @@
+-- Proved facts of what the library answers.
+pub mod Blocks
