@@ -24,7 +24,7 @@ module _ (c : tie.After-dot) where
   fq = record { sfits = omega (arith, mag-shr z 4, fz .sfits) }
 
 dot-requires : tie.Need-dot-requires
-dot-requires c κs = search needs
+dot-requires c κs = c .pre
 
 returns : tie.Need-returns
 unfolding inner

@@ -140,7 +140,7 @@ add-end : tie.Need-add-end Inv-loop μ-loop
 add-end c = omega (arith, ends c)
 
 mul-block-query : tie.Need-mul-block-query Inv-loop μ-loop
-mul-block-query c = search needs
+mul-block-query c = omega arith
 
 sub-block-query : tie.Need-sub-block-query Inv-loop μ-loop
 sub-block-query c = omega arith
