@@ -1,5 +1,4 @@
 -- `whole_point` decodes all bytes but the first.
-use borrow.Author.Needs.{needs}
 use mathlib.Core.Path.{sym, _∙_, ap₂, subst}
 use mathlib.Core.List.{List}
 use Prim.Native.Nat.{ℕ}
