@@ -1,0 +1,1 @@
+-- Proved facts of the tables.

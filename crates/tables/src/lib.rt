@@ -1,0 +1,1 @@
+// Scores by table (01, Scores).
