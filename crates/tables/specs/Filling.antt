@@ -37,9 +37,13 @@ pairTableRoom c out = written (checkPairTable c (length out)) pairTable out
 
 -- ---- the query table
 
--- settings; q; the query's count; the table's length, K·q^8; then the readings
+-- settings; q; the query's count; the table's length, K·q^8
+unfoldable pub queryTableAsked : Settings → Hour → ℕ → Verdict
+queryTableAsked c h room = firstRefusal (checkSettings c ∷ checkTable queryMost c ∷ h .frame ∷ checkEntries (partSize (natAbs (c .q)) * blocksOf h) room ∷ [])
+
+-- these; then its readings
 unfoldable pub checkQueryTable : Settings → Hour → ℕ → Verdict
-checkQueryTable c h room = firstRefusal (checkSettings c ∷ checkTable queryMost c ∷ h .frame ∷ checkEntries (partSize (natAbs (c .q)) * blocksOf h) room ∷ checkReadings 0 (h .readings) ∷ [])
+checkQueryTable c h room = firstRefusal (queryTableAsked c h room ∷ checkReadings 0 (h .readings) ∷ [])
 
 -- the whole answer: how many entries were filled; and the table afterwards
 unfoldable pub queryFilled : Settings → Hour → ℕ → Answer

@@ -1,1 +1,4 @@
 -- Proved facts of the tables.
+pub mod Counting
+pub mod Entries
+pub mod Sums

@@ -1,1 +1,2 @@
 // Scores by table (01, Scores).
+pub mod counting;

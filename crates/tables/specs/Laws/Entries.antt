@@ -1,0 +1,74 @@
+-- What stands where in the tables: their lengths, the entry of each number, the part of each block.
+use mathlib.Core.Path.{_≡_, sym, _∙_, ap, subst}
+use mathlib.Core.List.{List, _++_, map}
+use Prim.Native.Nat.{ℕ, _+_, _*_, _/_, _<_}
+use native.Mathlib.Omega.{arith}
+use lib.IntN.{ℤ, pos}
+use lib.ListN.{length, getD, take, drop, length-map, List·getD-append}
+use lib.Seq.{getD-take, getD-drop}
+use Rattle.integers.specs.Laws.Loops.{range, range-long, range-at}
+use Rattle.integers.specs.Vectors.{«at», dot}
+use Rattle.layers.specs.Digits.{IsLayer, joined, cut, entryOf, digitsOf}
+use Rattle.layers.specs.E8.{layerPoint8}
+use Rattle.layers.specs.Laws.Entries.{entryOf-less, digitsOf-entryOf, row-at, rows-long}
+use Rattle.records.specs.Laws.Parts.{cut-long, cut-made}
+use Rattle.records.specs.Vectors.{inBlocks}
+use Rattle.scores.specs.Scores.{inner}
+use Rattle.tables.specs.Tables.{partSize, layerAt, pairRow, pairTable, queryPart, queryTable}
+
+-- what f makes of 0 to n - 1 has its value at i there
+from-zero : (f : ℕ → ℤ) (n i : ℕ) → i < n → «at» (map f (range 0 n)) i ≡ f i
+from-zero f n i h = range-at f 0 n i (pos 0) h ∙ ap f (omega arith)
+
+-- ---- a layer's number
+
+module _ (q : ℕ) (ds : List ℕ) (h : IsLayer 8 q ds) where
+  -- it is below q^8, and the layer point of that number is the layer's
+  pub entry-within : entryOf q ds < partSize q
+  unfolding partSize
+  entry-within = rw (h .long) at (entryOf-less q ds (h .below))
+
+  pub layerAt-entry : layerAt q (entryOf q ds) ≡ layerPoint8 q ds
+  layerAt-entry = ap (layerPoint8 q) (digitsOf-entryOf q 8 ds (h .long) (h .below))
+
+-- ---- the pair table
+
+pub pairRow-long : (i : ℕ) → length (pairRow i) ≡ 256
+unfolding pairRow
+pairRow-long i = length-map (range 0 256) (λ (j : ℕ). inner (layerAt 2 i) (layerAt 2 j)) ∙ range-long 0 256
+
+pub pairRow-at : (i j : ℕ) → j < 256 → «at» (pairRow i) j ≡ inner (layerAt 2 i) (layerAt 2 j)
+unfolding pairRow
+pairRow-at i j h = from-zero (λ (j : ℕ). inner (layerAt 2 i) (layerAt 2 j)) 256 j h
+
+pub pairTable-long : length pairTable ≡ 65536
+unfolding pairTable
+pairTable-long = rows-long pairRow 256 pairRow-long 0 256
+
+-- row i stands from 256 i
+row-is : (i : ℕ) → i < 256 → take 256 (drop (256 * i) pairTable) ≡ pairRow i
+unfolding pairTable
+row-is i h = row-at pairRow 256 pairRow-long 0 256 i h ∙ ap pairRow (omega arith)
+
+-- the entry 256 i + j, whatever follows the table
+pub pairTable-at : (rest : List ℤ) (i j : ℕ) → i < 256 → j < 256 → «at» (pairTable ++ rest) (256 * i + j) ≡ inner (layerAt 2 i) (layerAt 2 j)
+pairTable-at rest i j h k =
+    List·getD-append pairTable rest (pos 0) (256 * i + j) (omega (arith, pairTable-long))
+    ∙ sym (getD-drop (256 * i) pairTable j (pos 0)) ∙ sym (getD-take 256 (drop (256 * i) pairTable) j (pos 0) k) ∙ ap (λ (r : List ℤ). «at» r j) (row-is i h) ∙ pairRow-at i j k
+-- ---- the query table
+
+module _ (q : ℕ) where
+  pub queryPart-long : (X : List ℤ) → length (queryPart q X) ≡ partSize q
+  unfolding queryPart
+  queryPart-long X = length-map (range 0 (partSize q)) _ ∙ range-long 0 (partSize q)
+
+  pub queryPart-at : (X : List ℤ) (i : ℕ) → i < partSize q → «at» (queryPart q X) i ≡ dot X (layerAt q i)
+  unfolding queryPart
+  queryPart-at X i h = from-zero (λ (i : ℕ). dot X (layerAt q i)) (partSize q) i h
+
+  module _ (X : List ℤ) where
+    -- the parts of its blocks, whatever follows the table
+    pub queryTable-parts : (rest : List ℤ) → cut (partSize q) (length X / 8) (queryTable q X ++ rest) ≡ map (queryPart q) (inBlocks X)
+    unfolding queryTable
+    queryTable-parts rest = subst (λ (k : ℕ). cut (partSize q) k (joined (map (queryPart q) (inBlocks X)) ++ rest) ≡ map (queryPart q) (inBlocks X)) (cut-long 8 (length X / 8) X)
+        (cut-made (queryPart q) (partSize q) queryPart-long (inBlocks X) rest)
