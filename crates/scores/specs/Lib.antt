@@ -1,2 +1,3 @@
 -- Scores. Definitions stand here; `Laws` holds what is proved of them.
 pub mod Scores
+pub mod Laws

@@ -1,0 +1,4 @@
+-- Proved facts of scores.
+pub mod Totals
+pub mod Inner
+pub mod Sizes

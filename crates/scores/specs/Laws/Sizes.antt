@@ -1,0 +1,70 @@
+-- How large scores are, for all q, M and K: each coordinate of a whole point is at most 2 W, and nothing else is used.
+use mathlib.Core.Path.{_≡_, sym, _∙_, ap}
+use mathlib.Core.List.{List}
+use Prim.Native.Nat.{ℕ, _+_, _*_, _^_, _<_, _≤_}
+use native.Mathlib.Nat.{mul-le-mul, le-refl}
+use native.Mathlib.Omega.{arith}
+use lib.IntN.{ℤ, natAbs, _*ℤ_}
+use lib.ListN.{length, getD, drop}
+use lib.Seq.{take-all}
+use Rattle.integers.specs.Laws.Sizes.{abs-mul-le}
+use Rattle.integers.specs.Laws.Sums.{dot-bound, sized-more}
+use Rattle.integers.specs.Vectors.{dot, Sized}
+use Rattle.lattice.specs.Doubled.{E8}
+use Rattle.layers.specs.Laws.Bases.{base-two}
+use Rattle.layers.specs.Laws.E8.{decode-in8, decode-small8}
+use Rattle.layers.specs.Laws.Widths.{width-less}
+use Rattle.layers.specs.Sizes.{width}
+use Rattle.records.specs.Codes.{Coder, IsBlock}
+use Rattle.records.specs.Decode.{stepOf, wholePoint}
+use Rattle.records.specs.Laws.Asked.{coder-positive}
+use Rattle.refusals.specs.Limits.{stepMost}
+use Rattle.scores.specs.Laws.Inner.{inner-size}
+use Rattle.scores.specs.Scores.{inner, blockPair, blockQuery}
+
+pub dot-sized : (n A B : ℕ) (a b : List ℤ) → Sized n A a → Sized n B b → natAbs (dot a b) ≤ n * (A * B)
+dot-sized n A B a b h k = rw (take-all n a (omega (arith, h .long)), take-all n b (omega (arith, k .long))) at (dot-bound A B a b (h .small) (k .small) n)
+
+-- s times an inner product, and s·t times one
+module _ (q : ℤ) (m : ℕ) where
+  abbrev W : ℕ
+  W = width (natAbs q) m
+
+  -- one block's part of a query score, and of a pair score
+  abbrev pub queryPart : ℕ
+  queryPart = stepMost * (8 * (2 ^ 24 * (2 * W)))
+
+  abbrev pub pairPart : ℕ
+  pairPart = stepMost * stepMost * (8 * (W * W))
+
+  module _ (steps : List ℤ) (c : Coder q m steps) where
+    pub width-most : W ≤ 8190
+    width-most = omega (arith, width-less (natAbs q) m (base-two q (c .base)), c .power)
+
+    module _ (b : List ℕ) (h : IsBlock (length steps) (natAbs q) m b) where
+      abbrev e : List ℤ
+      e = wholePoint (natAbs q) m b
+
+      pub point-in : E8 e
+      point-in = decode-in8 (natAbs q) m (coder-positive q m steps c) (drop 1 b) (h .code)
+
+      pub point-sized : Sized 8 (2 * W) e
+      point-sized = record { long = point-in .long; small = decode-small8 (natAbs q) m (coder-positive q m steps c) (drop 1 b) (h .code) }
+
+      -- as the code takes it
+      pub point-small : Sized 8 (2 ^ 24) e
+      point-small = sized-more 8 (2 * W) e point-sized (2 ^ 24) (omega (arith, width-most))
+
+      pub step-small : natAbs (stepOf steps b) ≤ stepMost
+      step-small = c .listed .each (getD b 0 0) (h .first) .most
+
+      pub query-dot-small : (X : List ℤ) → Sized 8 (2 ^ 24) X → natAbs (dot X e) ≤ 8 * (2 ^ 24 * (2 * W))
+      query-dot-small X k = dot-sized 8 (2 ^ 24) (2 * W) X e k point-sized
+
+      pub blockQuery-small : (X : List ℤ) → Sized 8 (2 ^ 24) X → natAbs (blockQuery (natAbs q) m steps X b) ≤ queryPart
+      unfolding blockQuery
+      blockQuery-small X k = abs-mul-le (stepOf steps b) (dot X e) step-small (query-dot-small X k)
+
+      -- so no more than this, whatever q and M are
+      pub blockQuery-most : (X : List ℤ) → Sized 8 (2 ^ 24) X → natAbs (blockQuery (natAbs q) m steps X b) ≤ 2 ^ 51
+      blockQuery-most X k = omega (arith, blockQuery-small X k, width-most)
