@@ -1,11 +1,12 @@
 -- What stands where in the tables: their lengths, the entry of each number, the part of each block.
-use mathlib.Core.Path.{_≡_, sym, _∙_, ap, subst}
+use mathlib.Core.Path.{_≡_, sym, _∙_, ap, ap₂, subst}
 use mathlib.Core.List.{List, _++_, map}
-use Prim.Native.Nat.{ℕ, _+_, _*_, _/_, _<_}
+use Prim.Native.Nat.{ℕ, _+_, _*_, _-_, _/_, _^_, _<_, _≤_}
+use native.Mathlib.Nat.{pow-le-pow-left}
 use native.Mathlib.Omega.{arith}
 use lib.IntN.{ℤ, pos}
 use lib.ListN.{length, getD, take, drop, length-map, List·getD-append}
-use lib.Seq.{getD-take, getD-drop}
+use lib.Seq.{getD-take, getD-drop, drop-drop}
 use Rattle.integers.specs.Laws.Loops.{range, range-long, range-at}
 use Rattle.integers.specs.Vectors.{«at», dot}
 use Rattle.layers.specs.Digits.{IsLayer, joined, cut, entryOf, digitsOf}
@@ -14,7 +15,7 @@ use Rattle.layers.specs.Laws.Entries.{entryOf-less, digitsOf-entryOf, row-at, r
 use Rattle.records.specs.Laws.Parts.{cut-long, cut-made}
 use Rattle.records.specs.Vectors.{inBlocks}
 use Rattle.scores.specs.Scores.{inner}
-use Rattle.tables.specs.Tables.{partSize, layerAt, pairRow, pairTable, queryPart, queryTable}
+use Rattle.tables.specs.Tables.{queryMost, partSize, layerAt, pairRow, pairTable, queryPart, queryTable}
 
 -- what f makes of 0 to n - 1 has its value at i there
 from-zero : (f : ℕ → ℤ) (n i : ℕ) → i < n → «at» (map f (range 0 n)) i ≡ f i
@@ -72,3 +73,20 @@ module _ (q : ℕ) where
     unfolding queryTable
     queryTable-parts rest = subst (λ (k : ℕ). cut (partSize q) k (joined (map (queryPart q) (inBlocks X)) ++ rest) ≡ map (queryPart q) (inBlocks X)) (cut-long 8 (length X / 8) X)
         (cut-made (queryPart q) (partSize q) queryPart-long (inBlocks X) rest)
+
+-- ---- lengths that code calculates with
+
+-- a part has at most 65,536 entries
+pub part-most : (q : ℕ) → q ≤ queryMost → partSize q ≤ 65536
+unfolding partSize
+part-most q h = pow-le-pow-left h 8
+
+-- and the entry number of a layer is made within 32 bits
+pub layer-power-small : (q : ℕ) → q ≤ queryMost → (ds : List ℕ) → IsLayer 8 q ds → q ^ length ds ≤ 2 ^ 32
+unfolding partSize
+layer-power-small q h ds k = rw (k .long) (omega (arith, part-most q h))
+
+-- layer i of a block, whose first byte is T
+pub block-layer : (b : List ℕ) (i : ℕ) → take (8 * i + 1 + 8 - (8 * i + 1)) (drop (8 * i + 1) b) ≡ take 8 (drop (8 * i) (drop 1 b))
+block-layer b i = let n : 8 * i + 1 + 8 - (8 * i + 1) ≡ 8 = omega arith in let a : 8 * i + 1 ≡ 1 + 8 * i = omega arith in
+    ap₂ (λ (n j : ℕ). take n (drop j b)) n a ∙ ap (take 8) (sym (drop-drop (8 * i) 1 b))

@@ -1,14 +1,21 @@
 -- Sums over layers as code makes them, from the top layer down: q times what the layers above gave, and one layer more.
 use mathlib.Core.Path.{_≡_, refl, sym, _∙_, ap, ap₂}
 use mathlib.Core.List.{List, [], _∷_, map}
-use Prim.Native.Nat.{ℕ, suc, _+_, _*_, _^_, _≤_}
-use native.Mathlib.Nat.{mul-le-mul, le-refl, pow-zero}
+use Prim.Native.Nat.{ℕ, suc, _+_, _*_, _-_, _^_, _<_, _≤_}
+use native.Mathlib.Nat.{mul-le-mul, le-refl, le-trans, pow-zero, pow-succ', pow-le-pow-right}
 use native.Mathlib.Omega.{arith}
-use lib.IntN.{ℤ, pos, natAbs, _+ℤ_, _*ℤ_}
-use Rattle.integers.specs.Laws.Difference.{byD, ints, byD₂}
+use lib.IntN.{ℤ, pos, negsuc, natAbs, _+ℤ_, _*ℤ_}
+use lib.ListN.{length, take, drop, length-map, drop-of-length-le}
+use lib.Seq.{drop-cons}
+use lib.Signed.{mag}
+use Rattle.integers.specs.Laws.Difference.{ints, byD₂}
+use Rattle.integers.specs.Laws.Loops.{map-at}
 use Rattle.integers.specs.Laws.Sizes.{abs-add, abs-mul}
+use Rattle.integers.specs.Vectors.{«at»}
+use Rattle.layers.specs.Digits.{cut}
 use Rattle.layers.specs.Laws.Weights.{layerSum-up}
 use Rattle.layers.specs.Sums.{layerSum, pairSum}
+use Rattle.records.specs.Laws.Parts.{cut-long, cut-at}
 
 -- the first of a list, q times the second, q^2 times the third, and so on, together
 abbrev pub powerSum : ℕ → List ℤ → ℤ
@@ -40,7 +47,47 @@ module _ (q : ℕ) where
     pair-power [] = refl
     pair-power (ds ∷ a) = ap₂ _+ℤ_ (layer-power (f ds) b) (pairSum-up 0 a ∙ ap (λ (t : ℤ). pos q *ℤ t) (pair-power a))
 
--- how large they become: a sum z of terms of at most B, with one term more; P is the power of q that z is below
-pub sum-grows : (q B P : ℕ) (x z : ℤ) → 2 ≤ q → natAbs x ≤ B → natAbs z + B ≤ B * P → natAbs (x +ℤ pos q *ℤ z) + B ≤ B * (q * P)
-sum-grows q B P x z two h k =
-    omega (arith, abs-add x (pos q *ℤ z), abs-mul (pos q) z, mul-le-mul (le-refl q) k, mul-le-mul two (le-refl B))
+-- a sum made from the last term to the first: it holds those from i on, and stays below a power of q times the largest term
+pub record Summed (q B : ℕ) (l : List ℤ) (i : ℕ) (z : ℤ) : Type 0 where
+  pub within : i ≤ length l
+  pub is : z ≡ powerSum q (drop i l)
+  pub small : natAbs z + B ≤ B * q ^ (length l - i)
+
+module _ (q B : ℕ) (l : List ℤ) where
+  pub summed-none : (n : ℕ) → length l ≡ n → Summed q B l n (pos 0)
+  summed-none n h = let e : length l - n ≡ 0 = omega arith in
+      record { within = omega arith; is = ap (powerSum q) (sym (drop-of-length-le l {i = n} (omega arith))); small = rw (e, pow-zero q) (omega arith) }
+
+  module _ (i : ℕ) (z : ℤ) (s : Summed q B l i z) where
+    -- the term before i is added
+    pub summed-more : 2 ≤ q → 0 < i → (x : ℤ) → x ≡ «at» l (i - 1) → natAbs x ≤ B → Summed q B l (i - 1) (x +ℤ pos q *ℤ z)
+    summed-more two h x e b = let j : ℕ = i - 1 in let up : suc j ≡ i = omega arith in let k : ℕ = length l - i in let more : length l - j ≡ suc k = omega (arith, s .within) in
+        record {
+          within = omega (arith, s .within);
+          is = ap₂ (λ (x z : ℤ). x +ℤ pos q *ℤ z) e (s .is ∙ ap (λ (n : ℕ). powerSum q (drop n l)) (sym up)) ∙ sym (ap (powerSum q) (drop-cons l j (pos 0) (omega (arith, s .within))));
+          small = rw (more, pow-succ' q k) (omega (arith, s .small, abs-add x (pos q *ℤ z), abs-mul (pos q) z, mul-le-mul (le-refl q) (s .small), mul-le-mul two (le-refl B)));
+        }
+
+    -- it stays at most B P where q^n is at most P, n the number of terms
+    pub summed-most : 0 < q → (P : ℕ) → q ^ length l ≤ P → natAbs z ≤ B * P
+    summed-most q> P h = let k : q ^ (length l - i) ≤ q ^ length l = pow-le-pow-right q> (omega arith) in omega (arith, s .small, mul-le-mul (le-refl B) (le-trans k h))
+
+    -- after the first term it holds all
+    pub summed-all : i ≡ 0 → z ≡ powerSum q l
+    summed-all e = s .is ∙ ap (λ (n : ℕ). powerSum q (drop n l)) e
+
+-- the terms of m layers: their number, and the one of layer j
+module _ (g : List ℕ → ℤ) (m : ℕ) (ds : List ℕ) where
+  abbrev pub terms : List ℤ
+  terms = map g (cut 8 m ds)
+
+  pub terms-long : length terms ≡ m
+  terms-long = length-map (cut 8 m ds) g ∙ cut-long 8 m ds
+
+  pub terms-at : (j : ℕ) → j < m → «at» terms j ≡ g (take 8 (drop (8 * j) ds))
+  terms-at j h = map-at g (cut 8 m ds) j [] (pos 0) (omega (arith, cut-long 8 m ds)) ∙ ap g (cut-at 8 m j ds h)
+
+-- a number that was read from n bits, the sign aside, is at most 2^n in magnitude
+pub read-small : (B : ℕ) (x : ℤ) → mag x < B → natAbs x ≤ B
+read-small B (pos n) h = omega arith
+read-small B (negsuc n) h = omega arith

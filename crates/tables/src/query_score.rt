@@ -1,0 +1,60 @@
+// The query score of a code record by the query table: sums of what the lent table holds (01, Scores).
+ghost use mathlib.Core.Path.{_≡_};
+ghost use Prim.Native.Nat.{_*_, _^_, _≤_};
+ghost use lib.IntN.{natAbs};
+ghost use lib.ListN.{length};
+ghost use Rattle.layers.specs.Digits.{cut};
+ghost use Rattle.records.specs.Codes.{Coder, IsBlock, AreBlocks, blockSize};
+ghost use Rattle.scores.specs.Scores.{total};
+ghost use Rattle.tables.specs.Scoring.{blockQueryBy};
+ghost use Rattle.tables.specs.Tables.{queryMost, partSize};
+use crate::parts;
+use layers::lookup;
+use records::codes;
+use records::decode;
+
+// A coded block by its part of the table, from the top layer down: its entry, and q times what the layers above it gave; all of it s times.
+fn block_query_by(part: &[i32], steps: &[i32], b: &[u8], q: i64, m: usize) -> i64
+    requires { ⌜ Coder q m (now steps) × IsBlock (length (now steps)) (natAbs q) m (now b) × (natAbs q ≤ queryMost) × (length (now part) ≡ partSize (natAbs q)) ⌝ }
+    ensures value { λ r. ⌜ r ≡ blockQueryBy (natAbs q) m (now (steps .entry)) (now (part .entry)) (now (b .entry)) ⌝ }
+    ensures small { λ r. ⌜ natAbs r ≤ 2 ^ 53 ⌝ }
+{
+    let values = q as usize;
+    let mut z: i64 = 0;
+    let mut i = m;
+    while i > 0 {
+        i = i - 1;
+        let at = 8 * i + 1;
+        let end = at + 8;
+        let n = lookup::entry_number(&b[at..end], values);
+        z = part[n] as i64 + q * z;
+    }
+    decode::step_of(steps, b) * z
+}
+
+// The sum over k coded blocks, each by its own part of the table.
+pub fn query_total_by(
+    table: &[i32],
+    steps: &[i32],
+    body: &[u8],
+    q: i64,
+    m: usize,
+    k: usize,
+) -> i64
+    requires { ⌜ Coder q m (now steps) × AreBlocks (length (now steps)) (natAbs q) m k (now body) × (natAbs q ≤ queryMost) × (partSize (natAbs q) * k ≤ length (now table)) × (k ≤ 64) ⌝ }
+    ensures { λ r. ⌜ r ≡ total (blockQueryBy (natAbs q) m (now (steps .entry))) (cut (partSize (natAbs q)) k (now (table .entry))) (cut (blockSize m) k (now (body .entry))) ⌝ }
+{
+    let size = parts::part_size(q);
+    let n = codes::block_size(m);
+    let mut z: i64 = 0;
+    let mut i: usize = 0;
+    while i < k {
+        let from = size * i;
+        let to = from + size;
+        let at = n * i;
+        let end = at + n;
+        z = z + block_query_by(&table[from..to], steps, &body[at..end], q, m);
+        i = i + 1;
+    }
+    z
+}
