@@ -1,4 +1,5 @@
 -- Proved facts of the tables.
 pub mod Counting
 pub mod Entries
+pub mod Sizes
 pub mod Sums

@@ -29,13 +29,13 @@ partSize q = q ^ 8
 abbrev pub layerAt : ℕ → ℕ → List ℤ
 layerAt q i = layerPoint8 q (digitsOf q 8 i)
 
--- the inner products of the layer point i with each layer point, for q = 2
-unfoldable pub pairRow : ℕ → List ℤ
-pairRow i = map (λ (j : ℕ). inner (layerAt 2 i) (layerAt 2 j)) (range 0 256)
+-- the inner products of a point with each layer point, for q = 2
+unfoldable pub pairRow : List ℤ → List ℤ
+pairRow e = map (λ (j : ℕ). inner e (layerAt 2 j)) (range 0 256)
 
--- the pair table: entry 256 i + j is the inner product of the layer points i and j
+-- the pair table, row after row: entry 256 i + j is the inner product of the layer points i and j
 unfoldable pub pairTable : List ℤ
-pairTable = joined (map pairRow (range 0 256))
+pairTable = joined (map (λ (i : ℕ). pairRow (layerAt 2 i)) (range 0 256))
 
 -- one block's part of the query table: entry i is the sum of X_k·e_k over the layer point e with that number
 unfoldable pub queryPart : ℕ → List ℤ → List ℤ

@@ -1,8 +1,9 @@
 -- What stands where in the tables: their lengths, the entry of each number, the part of each block.
-use mathlib.Core.Path.{_≡_, sym, _∙_, ap, ap₂, subst}
-use mathlib.Core.List.{List, _++_, map}
-use Prim.Native.Nat.{ℕ, _+_, _*_, _-_, _/_, _^_, _<_, _≤_}
+use mathlib.Core.Path.{_≡_, refl, sym, _∙_, ap, ap₂, subst}
+use mathlib.Core.List.{List, [], _∷_, _++_, map}
+use Prim.Native.Nat.{ℕ, zero, suc, _+_, _*_, _-_, _/_, _^_, _<_, _≤_}
 use native.Mathlib.Nat.{pow-le-pow-left}
+use native.Mathlib.Numerals.{add-one}
 use native.Mathlib.Omega.{arith}
 use lib.IntN.{ℤ, pos}
 use lib.ListN.{length, getD, take, drop, length-map, List·getD-append}
@@ -12,7 +13,7 @@ use Rattle.integers.specs.Vectors.{«at», dot}
 use Rattle.layers.specs.Digits.{IsLayer, joined, cut, entryOf, digitsOf}
 use Rattle.layers.specs.E8.{layerPoint8}
 use Rattle.layers.specs.Laws.Entries.{entryOf-less, digitsOf-entryOf, row-at, rows-long}
-use Rattle.records.specs.Laws.Parts.{cut-long, cut-made}
+use Rattle.records.specs.Laws.Parts.{cut-long, cut-made, joined-more}
 use Rattle.records.specs.Vectors.{inBlocks}
 use Rattle.scores.specs.Scores.{inner}
 use Rattle.tables.specs.Tables.{queryMost, partSize, layerAt, pairRow, pairTable, queryPart, queryTable}
@@ -34,28 +35,47 @@ module _ (q : ℕ) (ds : List ℕ) (h : IsLayer 8 q ds) where
 
 -- ---- the pair table
 
-pub pairRow-long : (i : ℕ) → length (pairRow i) ≡ 256
+pub pairRow-long : (e : List ℤ) → length (pairRow e) ≡ 256
 unfolding pairRow
-pairRow-long i = length-map (range 0 256) (λ (j : ℕ). inner (layerAt 2 i) (layerAt 2 j)) ∙ range-long 0 256
+pairRow-long e = length-map (range 0 256) (λ (j : ℕ). inner e (layerAt 2 j)) ∙ range-long 0 256
 
-pub pairRow-at : (i j : ℕ) → j < 256 → «at» (pairRow i) j ≡ inner (layerAt 2 i) (layerAt 2 j)
+pub pairRow-at : (e : List ℤ) (j : ℕ) → j < 256 → «at» (pairRow e) j ≡ inner e (layerAt 2 j)
 unfolding pairRow
-pairRow-at i j h = from-zero (λ (j : ℕ). inner (layerAt 2 i) (layerAt 2 j)) 256 j h
+pairRow-at e j h = from-zero (λ (j : ℕ). inner e (layerAt 2 j)) 256 j h
+
+-- one number more
+range-more : (i n : ℕ) → range i (n + 1) ≡ range i n ++ ((i + n) ∷ [])
+range-more i n = ap (range i) (add-one n) ∙ go i n
+  where
+    go : (i n : ℕ) → range i (suc n) ≡ range i n ++ ((i + n) ∷ [])
+    go i zero = ap (λ (j : ℕ). j ∷ []) (omega arith)
+    go i (suc n) = ap (λ (l : List ℕ). i ∷ l) (go (suc i) n ∙ ap (λ (j : ℕ). range (suc i) n ++ (j ∷ [])) (omega arith))
+
+-- the first n rows, and one more
+abbrev pub pairRows : ℕ → List ℤ
+pairRows n = joined (map (λ (i : ℕ). pairRow (layerAt 2 i)) (range 0 n))
+
+pub rows-more : (n : ℕ) → pairRows (n + 1) ≡ pairRows n ++ pairRow (layerAt 2 n)
+rows-more n = ap (λ (l : List ℕ). joined (map (λ (i : ℕ). pairRow (layerAt 2 i)) l)) (range-more 0 n ∙ ap (λ (j : ℕ). range 0 n ++ (j ∷ [])) (omega arith)) ∙ joined-more (λ (i : ℕ). pairRow (layerAt 2 i)) (range 0 n) n
+
+pub rows-all : pairRows 256 ≡ pairTable
+unfolding pairTable
+rows-all = refl
 
 pub pairTable-long : length pairTable ≡ 65536
 unfolding pairTable
-pairTable-long = rows-long pairRow 256 pairRow-long 0 256
+pairTable-long = rows-long (λ (i : ℕ). pairRow (layerAt 2 i)) 256 (λ i. pairRow-long (layerAt 2 i)) 0 256
 
 -- row i stands from 256 i
-row-is : (i : ℕ) → i < 256 → take 256 (drop (256 * i) pairTable) ≡ pairRow i
+row-is : (i : ℕ) → i < 256 → take 256 (drop (256 * i) pairTable) ≡ pairRow (layerAt 2 i)
 unfolding pairTable
-row-is i h = row-at pairRow 256 pairRow-long 0 256 i h ∙ ap pairRow (omega arith)
+row-is i h = row-at (λ (i : ℕ). pairRow (layerAt 2 i)) 256 (λ i. pairRow-long (layerAt 2 i)) 0 256 i h ∙ ap (λ (i : ℕ). pairRow (layerAt 2 i)) (omega arith)
 
 -- the entry 256 i + j, whatever follows the table
 pub pairTable-at : (rest : List ℤ) (i j : ℕ) → i < 256 → j < 256 → «at» (pairTable ++ rest) (256 * i + j) ≡ inner (layerAt 2 i) (layerAt 2 j)
 pairTable-at rest i j h k =
     List·getD-append pairTable rest (pos 0) (256 * i + j) (omega (arith, pairTable-long))
-    ∙ sym (getD-drop (256 * i) pairTable j (pos 0)) ∙ sym (getD-take 256 (drop (256 * i) pairTable) j (pos 0) k) ∙ ap (λ (r : List ℤ). «at» r j) (row-is i h) ∙ pairRow-at i j k
+    ∙ sym (getD-drop (256 * i) pairTable j (pos 0)) ∙ sym (getD-take 256 (drop (256 * i) pairTable) j (pos 0) k) ∙ ap (λ (r : List ℤ). «at» r j) (row-is i h) ∙ pairRow-at (layerAt 2 i) j k
 -- ---- the query table
 
 module _ (q : ℕ) where
