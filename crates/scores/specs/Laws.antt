@@ -2,3 +2,6 @@
 pub mod Totals
 pub mod Inner
 pub mod Sizes
+pub mod Asked
+pub mod Query
+pub mod Pair

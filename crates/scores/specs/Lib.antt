@@ -1,3 +1,4 @@
 -- Scores. Definitions stand here; `Laws` holds what is proved of them.
 pub mod Scores
+pub mod Hours
 pub mod Laws

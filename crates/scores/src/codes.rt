@@ -1,8 +1,18 @@
-// The one check of a code record that is scored, by itself or in a store (01, When the unit says no).
+// Code records that are scored: the one check of a record, by itself or in a store, and the point of a block.
 ghost use mathlib.Core.Path.{_≡_};
+ghost use mathlib.Core.List.{[], _∷_};
 ghost use Prim.Native.Nat.{_+_, _^_, _<_, _≤_};
-ghost use lib.ListN.{length};
+ghost use lib.IntN.{natAbs};
+ghost use lib.ListN.{length, drop};
+ghost use Rattle.layers.specs.Digits.{IsCode};
+ghost use Rattle.layers.specs.Sizes.{longPower, Base};
+ghost use Rattle.layers.specs.Table.{TableFor};
+ghost use Rattle.records.specs.Codes.{blocksIn};
+ghost use Rattle.records.specs.Decode.{wholePoint};
+ghost use Rattle.refusals.specs.Limits.{blocksMost};
+ghost use Rattle.refusals.specs.Verdicts.{firstRefusal};
 ghost use Rattle.scores.specs.Scores.{checkCode};
+use layers::points;
 use records::codes;
 use records::frames;
 use refusals::Refusal;
@@ -29,4 +39,33 @@ pub fn check_code(
     } else {
         Verdict::Refused(Refusal::Record(place))
     }
+}
+
+// Two records of one K: the first is checked whole, then the second, which must have as many blocks.
+pub fn check_codes(
+    code: &[u8],
+    steps: usize,
+    code2: &[u8],
+    steps2: usize,
+    q: usize,
+    m: usize,
+) -> Verdict
+    requires { ⌜ m ≤ 256 ⌝ }
+    ensures { λ r. ⌜ r ≡ firstRefusal (checkCode steps q m 1 blocksMost 0 0 (now (code .entry)) ∷ checkCode steps2 q m (blocksIn m (now (code .entry))) (blocksIn m (now (code .entry))) 0 0 (now (code2 .entry)) ∷ []) ⌝ }
+{
+    match check_code(code, steps, q, m, 1, frames::BLOCKS_MOST, 0, 0) {
+        Verdict::Refused(r) => Verdict::Refused(r),
+        Verdict::Accepted => {
+            let k = codes::blocks_in(code, m);
+            check_code(code2, steps2, q, m, k, k, 0, 0)
+        }
+    }
+}
+
+// The doubled point of a coded block.
+pub(crate) fn whole_point(t: &[i8], b: &[u8], q: i64, m: usize) -> [i64; 8]
+    requires { ⌜ TableFor (natAbs q) (now t) × Base q × (natAbs q ^ m ≤ longPower) × (1 ≤ length (now b)) × IsCode 8 (natAbs q) m (drop 1 (now b)) ⌝ }
+    ensures { λ r. ⌜ r ≡ wholePoint (natAbs q) m (now (b .entry)) ⌝ }
+{
+    points::decode(t, &b[1..], q, m)
 }

@@ -1,17 +1,28 @@
 // The query score: whole readings against one code record, in halves of 1/1024 squared (01, Scores).
 ghost use mathlib.Core.Path.{_≡_};
-ghost use Prim.Native.Nat.{_*_, _^_, _≤_};
+ghost use Prim.Native.Nat.{_*_, _/_, _^_, _≤_};
 ghost use lib.IntN.{natAbs};
 ghost use lib.ListN.{length};
 ghost use Rattle.integers.specs.Vectors.{Sized};
 ghost use Rattle.layers.specs.Digits.{cut};
 ghost use Rattle.layers.specs.Table.{TableFor};
 ghost use Rattle.records.specs.Codes.{Coder, IsBlock, AreBlocks, blockSize};
-ghost use Rattle.scores.specs.Scores.{total, blockQuery};
+ghost use Rattle.records.specs.Encode.{UnitsTaken};
+ghost use Rattle.records.specs.Laws.Asked.{CoderTaken};
+ghost use Rattle.records.specs.Vectors.{unitsHour, fvecsHour};
+ghost use Rattle.refusals.specs.Answers.{valued};
+ghost use Rattle.scores.specs.Scores.{total, blockQuery, queryTotal, checkCode, queryScore};
+use crate::codes;
+use crate::hours;
 use crate::inner;
 use lattice::lent;
-use layers::points;
+use layers::table;
+use readings::words;
 use records::decode;
+use refusals::Answer;
+use refusals::Verdict;
+use refusals::settings;
+use refusals::settings::Settings;
 
 // Eight readings and a coded block: s times the sum of X_i·e_i.
 fn block_query(t: &[i8], steps: &[i32], x: &[i32], b: &[u8], q: i64, m: usize) -> i64
@@ -19,7 +30,7 @@ fn block_query(t: &[i8], steps: &[i32], x: &[i32], b: &[u8], q: i64, m: usize) -
     ensures { λ r. ⌜ r ≡ blockQuery (natAbs q) m (now (steps .entry)) (now (x .entry)) (now (b .entry)) ⌝ }
 {
     let s = decode::step_of(steps, b);
-    let e = points::decode(t, &b[1..], q, m);
+    let e = codes::whole_point(t, b, q, m);
     s * inner::dot(&lent::widen(x), &e)
 }
 
@@ -48,4 +59,56 @@ pub fn query_total(
         i = i + 1;
     }
     z
+}
+
+// The same, having the table itself, once for all blocks.
+fn query_body(steps: &[i32], x: &[i32], body: &[u8], q: i64, m: usize, k: usize) -> i64
+    requires { ⌜ Coder q m (now steps) × Sized (8 * k) (2 ^ 24) (now x) × AreBlocks (length (now steps)) (natAbs q) m k (now body) × (k ≤ 64) ⌝ }
+    ensures { λ r. ⌜ r ≡ total (blockQuery (natAbs q) m (now (steps .entry))) (cut 8 k (now (x .entry))) (cut (blockSize m) k (now (body .entry))) ⌝ }
+{
+    if q == 2 {
+        query_total(&table::layer_points(), steps, x, body, q, m, k)
+    } else {
+        query_total(&[0; 1], steps, x, body, q, m, k)
+    }
+}
+
+// The core on X: the record is checked, with as many blocks as there are of X, then scored.
+fn score_units(s: Settings, steps: &[i32], x: &[i32], code: &[u8]) -> Answer
+    requires { ⌜ CoderTaken s (now steps) × UnitsTaken (now x) ⌝ }
+    ensures { λ r. ⌜ r ≡ valued (checkCode (length (now (steps .entry))) (natAbs (s .q)) (natAbs (s .m)) (length (now (x .entry)) / 8) (length (now (x .entry)) / 8) 0 0 (now (code .entry))) (queryTotal (natAbs (s .q)) (natAbs (s .m)) (now (steps .entry)) (now (x .entry)) (now (code .entry))) ⌝ }
+{
+    let k = x.len() / 8;
+    let m = settings::layers(s);
+    match codes::check_code(code, steps.len(), settings::digit_values(s), m, k, k, 0, 0) {
+        Verdict::Refused(r) => refusals::refused(r),
+        Verdict::Accepted => Answer {
+            verdict: Verdict::Accepted,
+            value: query_body(steps, x, &code[4..], settings::base(s), m, k),
+        },
+    }
+}
+
+// The score of an hour in whole units against a code record.
+pub fn query_score_units(s: Settings, steps: &[i32], x: &[i32], code: &[u8]) -> Answer
+    ensures answer { λ r. ⌜ r ≡ queryScore s (now (steps .entry)) (unitsHour (now (x .entry))) (now (code .entry)) ⌝ }
+{
+    match hours::check_units_hour(s, steps, x) {
+        Verdict::Refused(r) => refusals::refused(r),
+        Verdict::Accepted => score_units(s, steps, x, code),
+    }
+}
+
+// The score of an hour that is an fvecs record.
+pub fn query_score(s: Settings, steps: &[i32], query: &[u8], code: &[u8]) -> Answer
+    ensures answer { λ r. ⌜ r ≡ queryScore s (now (steps .entry)) (fvecsHour (now (query .entry))) (now (code .entry)) ⌝ }
+{
+    let mut x: [i32; hours::READINGS_MOST] = [0; hours::READINGS_MOST];
+    match hours::take_fvecs_hour(s, steps, query, &mut x) {
+        Verdict::Refused(r) => refusals::refused(r),
+        Verdict::Accepted => {
+            let n = words::word_at(query, 0) as usize;
+            score_units(s, steps, &x[0..n], code)
+        }
+    }
 }

@@ -68,3 +68,30 @@ module _ (q : ℤ) (m : ℕ) where
       -- so no more than this, whatever q and M are
       pub blockQuery-most : (X : List ℤ) → Sized 8 (2 ^ 24) X → natAbs (blockQuery (natAbs q) m steps X b) ≤ 2 ^ 51
       blockQuery-most X k = omega (arith, blockQuery-small X k, width-most)
+
+-- two coded blocks, each with its own step list
+module _ (q : ℤ) (m : ℕ) (steps steps′ : List ℤ) (c : Coder q m steps) (c′ : Coder q m steps′)
+    (b b′ : List ℕ) (h : IsBlock (length steps) (natAbs q) m b) (h′ : IsBlock (length steps′) (natAbs q) m b′) where
+  abbrev p : List ℤ
+  p = wholePoint (natAbs q) m b
+
+  abbrev p′ : List ℤ
+  p′ = wholePoint (natAbs q) m b′
+
+  pub inner-small : natAbs (inner p p′) ≤ 8 * (W q m * W q m)
+  inner-small = omega (
+    arith,
+    inner-size p p′ (point-in q m steps c b h) (point-in q m steps′ c′ b′ h′),
+    dot-sized 8 (2 * W q m) (2 * W q m) p p′ (point-sized q m steps c b h) (point-sized q m steps′ c′ b′ h′),
+  )
+
+  pub steps-small : natAbs (stepOf steps b *ℤ stepOf steps′ b′) ≤ stepMost * stepMost
+  steps-small = abs-mul-le (stepOf steps b) (stepOf steps′ b′) (step-small q m steps c b h) (step-small q m steps′ c′ b′ h′)
+
+  pub blockPair-small : natAbs (blockPair (natAbs q) m steps steps′ b b′) ≤ pairPart q m
+  unfolding blockPair
+  blockPair-small = abs-mul-le (stepOf steps b *ℤ stepOf steps′ b′) (inner p p′) steps-small inner-small
+
+  -- so no more than this, whatever q and M are
+  pub blockPair-most : natAbs (blockPair (natAbs q) m steps steps′ b b′) ≤ 2 ^ 49
+  blockPair-most = let w = width-most q m steps c in omega (arith, blockPair-small, mul-le-mul w w)

@@ -1,0 +1,86 @@
+-- What it says that an hour and a code record were taken for a score and not refused.
+use mathlib.Core.Path.{_≡_, sym, _∙_, ap, ap₂}
+use mathlib.Core.List.{List, [], _∷_, _++_}
+use Prim.Native.Nat.{ℕ, _*_, _/_, _≤_}
+use native.Mathlib.Omega.{arith}
+use lib.IntN.{ℤ, natAbs}
+use lib.ListN.{length, drop}
+use Rattle.integers.specs.Vectors.{Sized}
+use Rattle.records.specs.Codes.{AreBlocks, blockSize, blocksIn, codeBlocks, checkFrame, checkBlocks}
+use Rattle.records.specs.Encode.{UnitsTaken}
+use Rattle.records.specs.Frames.{wholeBlocks}
+use Rattle.records.specs.Laws.Asked.{CoderTaken, coder-taken, RecordTaken, record-taken}
+use Rattle.records.specs.Laws.Frames.{Framed, record-framed}
+use Rattle.records.specs.Laws.Hours.{Sound, units-small, taken-all}
+use Rattle.records.specs.Vectors.{Hour, fvecsHour, checkReadings, unitsTaken}
+use Rattle.refusals.specs.declared.settings.Settings.{Settings}
+use Rattle.refusals.specs.declared.Refusal.the-variants.{Record}
+use Rattle.refusals.specs.declared.Verdict.{Verdict}
+use Rattle.refusals.specs.declared.Verdict.the-variants.{Accepted}
+use Rattle.refusals.specs.Laws.Verdicts.{unless-accepted, first-accepted, first-append}
+use Rattle.refusals.specs.Limits.{blocksMost}
+use Rattle.refusals.specs.Settings.{checkSettings}
+use Rattle.refusals.specs.Steps.{checkSteps}
+use Rattle.refusals.specs.Verdicts.{firstRefusal}
+use Rattle.scores.specs.Hours.{checkHour, unitsFront, hourRoom}
+use Rattle.scores.specs.Scores.{checkCode}
+
+-- a code record
+pub code-taken : (steps q m least most place first : ℕ) (b : List ℕ) → checkCode steps q m least most place first b ≡ Accepted → RecordTaken steps q m least most b
+unfolding checkCode
+code-taken steps q m least most place first b e =
+    let bytes : Verdict = checkBlocks steps q (blockSize m) first (codeBlocks m b) in let f = first-accepted (checkFrame m least most place b) (bytes ∷ []) e in
+    record-taken steps q m least most place first b (f .0) (first-accepted bytes [] (f .1) .0)
+
+-- of exactly K blocks
+pub exact-blocks : (m K : ℕ) (b : List ℕ) → Framed 1 (blockSize m) K K b → blocksIn m b ≡ K
+exact-blocks m K b h = omega (arith, h .whole .some, h .whole .few)
+
+-- an hour
+pub record HourTaken (c : Settings) (steps : List ℤ) (h : Hour) : Type 0 where
+  pub taken : CoderTaken c steps
+  pub units : UnitsTaken (unitsTaken (h .readings))
+  pub long : length (unitsTaken (h .readings)) ≡ length (h .readings)
+  pub readings : checkReadings 0 (h .readings) ≡ Accepted
+
+module _ (c : Settings) (steps : List ℤ) (h : Hour) where
+  pub hour-taken : Sound h → checkHour c steps h ≡ Accepted → HourTaken c steps h
+  unfolding checkHour
+  hour-taken sound e =
+      let readings : Verdict = checkReadings 0 (h .readings) in
+      let s = first-accepted (checkSettings c) (checkSteps 0 steps ∷ h .frame ∷ readings ∷ []) e in let l = first-accepted (checkSteps 0 steps) (h .frame ∷ readings ∷ []) (s .1) in
+      let f = first-accepted (h .frame) (readings ∷ []) (l .1) in let r = first-accepted readings [] (f .1) in let long = taken-all (h .readings) (r .0) in
+      record {
+        taken = coder-taken c 0 steps (s .0) (l .0);
+        units = record { whole = ap (wholeBlocks 8 1 64) long ∙ sound .counted (f .0); small = units-small (h .readings) (sound .ranged) };
+        long = long;
+        readings = r .0;
+      }
+
+  -- by what each check says, the first two made as one
+  pub hour-is : (v f r : Verdict) → firstRefusal (checkSettings c ∷ checkSteps 0 steps ∷ []) ≡ v → h .frame ≡ f → checkReadings 0 (h .readings) ≡ r → checkHour c steps h ≡ firstRefusal (v ∷ f ∷ r ∷ [])
+  unfolding checkHour
+  hour-is v f r d e g =
+      first-append (checkSettings c ∷ checkSteps 0 steps ∷ []) (h .frame ∷ checkReadings 0 (h .readings) ∷ [])
+      ∙ ap (λ (v : Verdict). firstRefusal (v ∷ h .frame ∷ checkReadings 0 (h .readings) ∷ [])) d ∙ ap₂ (λ (f r : Verdict). firstRefusal (v ∷ f ∷ r ∷ [])) e g
+
+  pub room-is : (v f : Verdict) (x : List ℤ) → firstRefusal (checkSettings c ∷ checkSteps 0 steps ∷ []) ≡ v → h .frame ≡ f → hourRoom c steps h x ≡ unitsFront (firstRefusal (v ∷ f ∷ [])) (unitsTaken (h .readings)) x
+  unfolding hourRoom
+  room-is v f x d e =
+      ap (λ (w : Verdict). unitsFront w (unitsTaken (h .readings)) x)
+      (first-append (checkSettings c ∷ checkSteps 0 steps ∷ []) (h .frame ∷ []) ∙ ap₂ (λ (v f : Verdict). firstRefusal (v ∷ f ∷ [])) d e)
+
+  -- the room of an accepted hour: its units, then the rest as found
+  pub room-taken : (x : List ℤ) → checkHour c steps h ≡ Accepted → hourRoom c steps h x ≡ unitsTaken (h .readings) ++ drop (length (unitsTaken (h .readings))) x
+  unfolding hourRoom checkHour
+  room-taken x e =
+      let readings : Verdict = checkReadings 0 (h .readings) in let asked : List Verdict = checkSettings c ∷ checkSteps 0 steps ∷ h .frame ∷ [] in
+      ap (λ (v : Verdict). unitsFront v (unitsTaken (h .readings)) x) (first-accepted (firstRefusal asked) (readings ∷ []) (sym (first-append asked (readings ∷ [])) ∙ e) .0)
+
+-- an fvecs record that was accepted
+pub hour-framed : (c : Settings) (steps : List ℤ) (b : List ℕ) → checkHour c steps (fvecsHour b) ≡ Accepted → Framed 4 8 1 blocksMost b
+unfolding checkHour
+hour-framed c steps b e =
+    let h : Hour = fvecsHour b in let readings : Verdict = checkReadings 0 (h .readings) in
+    let s = first-accepted (checkSettings c) (checkSteps 0 steps ∷ h .frame ∷ readings ∷ []) e in let l = first-accepted (checkSteps 0 steps) (h .frame ∷ readings ∷ []) (s .1) in
+    record-framed 4 8 1 blocksMost b (unless-accepted _ (Record 0) (first-accepted (h .frame) (readings ∷ []) (l .1) .0))

@@ -1,0 +1,65 @@
+-- The order of a pair score, and what it says that two records were taken for one.
+use mathlib.Core.Path.{_≡_, refl, sym, _∙_, ap, ap₂}
+use mathlib.Core.List.{List, [], _∷_, _++_}
+use Prim.Native.Nat.{ℕ}
+use lib.IntN.{ℤ, natAbs}
+use lib.ListN.{length}
+use Rattle.records.specs.Codes.{blocksIn}
+use Rattle.records.specs.Laws.Asked.{CoderTaken, coder-taken, RecordTaken}
+use Rattle.refusals.specs.declared.settings.Settings.{Settings}
+use Rattle.refusals.specs.declared.Verdict.{Verdict}
+use Rattle.refusals.specs.declared.Verdict.the-variants.{Accepted, Refused}
+use Rattle.refusals.specs.Laws.Verdicts.{first-accepted, first-last, first-append}
+use Rattle.refusals.specs.Limits.{blocksMost}
+use Rattle.refusals.specs.Settings.{checkSettings}
+use Rattle.refusals.specs.Steps.{checkSteps}
+use Rattle.refusals.specs.Verdicts.{firstRefusal}
+use Rattle.scores.specs.Laws.Asked.{code-taken}
+use Rattle.scores.specs.Scores.{checkCode, checkPair}
+
+-- checks that stand last may be made together, as one
+first-rest : (a b : List Verdict) → firstRefusal (a ++ b) ≡ firstRefusal (a ++ (firstRefusal b ∷ []))
+first-rest [] b = sym (first-last (firstRefusal b))
+first-rest (Accepted ∷ a) b = first-rest a b
+first-rest (Refused r ∷ a) b = refl
+
+-- settings, both step lists and both records of an accepted pair
+pub record PairTaken (c : Settings) (steps : List ℤ) (b : List ℕ) (steps′ : List ℤ) (b′ : List ℕ) : Type 0 where
+  pub first : CoderTaken c steps
+  pub second : CoderTaken c steps′
+  pub code : RecordTaken (length steps) (natAbs (c .q)) (natAbs (c .m)) 1 blocksMost b
+  pub other : RecordTaken (length steps′) (natAbs (c .q)) (natAbs (c .m)) (blocksIn (natAbs (c .m)) b) (blocksIn (natAbs (c .m)) b) b′
+
+module _ (c : Settings) (steps : List ℤ) (b : List ℕ) (steps′ : List ℤ) (b′ : List ℕ) where
+  abbrev q : ℕ
+  q = natAbs (c .q)
+
+  abbrev m : ℕ
+  m = natAbs (c .m)
+
+  abbrev here : Verdict
+  here = checkCode (length steps) q m 1 blocksMost 0 0 b
+
+  abbrev there : Verdict
+  there = checkCode (length steps′) q m (blocksIn m b) (blocksIn m b) 0 0 b′
+
+  -- the first two checks as one, the second list, and both records as one
+  pub pair-is : (v w : Verdict) → firstRefusal (checkSettings c ∷ checkSteps 0 steps ∷ []) ≡ v → checkSteps 1 steps′ ≡ w
+      → checkPair c steps b steps′ b′ ≡ firstRefusal (v ∷ w ∷ firstRefusal (here ∷ there ∷ []) ∷ [])
+  unfolding checkPair
+  pair-is v w d e =
+      first-append (checkSettings c ∷ checkSteps 0 steps ∷ []) (checkSteps 1 steps′ ∷ here ∷ there ∷ [])
+      ∙ ap₂ (λ (v w : Verdict). firstRefusal (v ∷ w ∷ here ∷ there ∷ [])) d e ∙ first-rest (v ∷ w ∷ []) (here ∷ there ∷ [])
+
+  pub pair-taken : checkPair c steps b steps′ b′ ≡ Accepted → PairTaken c steps b steps′ b′
+  unfolding checkPair
+  pair-taken e =
+      let listed : Verdict = checkSteps 0 steps in let listed′ : Verdict = checkSteps 1 steps′ in
+      let s = first-accepted (checkSettings c) (listed ∷ listed′ ∷ here ∷ there ∷ []) e in let l = first-accepted listed (listed′ ∷ here ∷ there ∷ []) (s .1) in
+      let l′ = first-accepted listed′ (here ∷ there ∷ []) (l .1) in let h = first-accepted here (there ∷ []) (l′ .1) in let t = first-accepted there [] (h .1) in
+      record {
+        first = coder-taken c 0 steps (s .0) (l .0);
+        second = coder-taken c 1 steps′ (s .0) (l′ .0);
+        code = code-taken (length steps) q m 1 blocksMost 0 0 b (h .0);
+        other = code-taken (length steps′) q m (blocksIn m b) (blocksIn m b) 0 0 b′ (t .0);
+      }

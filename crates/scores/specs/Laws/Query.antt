@@ -1,0 +1,53 @@
+-- The order of a query score, and what its core answers.
+use mathlib.Core.Path.{_≡_, sym, _∙_, ap, ap₂}
+use mathlib.Core.List.{List, [], _∷_}
+use Prim.Native.Nat.{ℕ, _/_}
+use lib.IntN.{ℤ, pos, natAbs}
+use lib.ListN.{length}
+use Rattle.records.specs.Vectors.{Hour, checkReadings, unitsTaken, blocksOf}
+use Rattle.refusals.specs.declared.settings.Settings.{Settings}
+use Rattle.refusals.specs.declared.Refusal.{Refusal}
+use Rattle.refusals.specs.declared.Verdict.{Verdict}
+use Rattle.refusals.specs.declared.Verdict.the-variants.{Accepted, Refused}
+use Rattle.refusals.specs.Answers.{valued}
+use Rattle.refusals.specs.Laws.Verdicts.{first-last, first-append}
+use Rattle.refusals.specs.Settings.{checkSettings}
+use Rattle.refusals.specs.Steps.{checkSteps}
+use Rattle.refusals.specs.Verdicts.{firstRefusal}
+use Rattle.scores.specs.Hours.{checkHour}
+use Rattle.scores.specs.Scores.{queryTotal, checkCode, checkQuery, queryScore}
+
+module _ (c : Settings) (steps : List ℤ) (h : Hour) (b : List ℕ) where
+  abbrev q : ℕ
+  q = natAbs (c .q)
+
+  abbrev m : ℕ
+  m = natAbs (c .m)
+
+  -- the record, of K blocks
+  abbrev code : ℕ → Verdict
+  code K = checkCode (length steps) q m K K 0 0 b
+
+  -- the hour is checked first, then the record
+  opened : (v : Verdict) → checkHour c steps h ≡ v → checkQuery c steps h b ≡ firstRefusal (v ∷ code (blocksOf h) ∷ [])
+  unfolding checkQuery checkHour
+  opened v e =
+      first-append (checkSettings c ∷ checkSteps 0 steps ∷ h .frame ∷ checkReadings 0 (h .readings) ∷ []) (code (blocksOf h) ∷ [])
+      ∙ ap (λ (v : Verdict). firstRefusal (v ∷ code (blocksOf h) ∷ [])) e
+
+  pub query-refused : (r : Refusal) → checkHour c steps h ≡ Refused r → checkQuery c steps h b ≡ Refused r
+  query-refused r e = opened (Refused r) e
+
+  pub query-last : checkHour c steps h ≡ Accepted → checkQuery c steps h b ≡ code (blocksOf h)
+  query-last e = opened Accepted e ∙ first-last (code (blocksOf h))
+
+  -- the answer where the hour is refused
+  pub queryScore-refused : (r : Refusal) → checkHour c steps h ≡ Refused r → valued (Refused r) (pos 0) ≡ queryScore c steps h b
+  unfolding queryScore
+  queryScore-refused r e = ap (λ (v : Verdict). valued v (queryTotal q m steps (unitsTaken (h .readings)) b)) (sym (query-refused r e))
+
+  -- and where it is accepted, with X its units
+  pub queryScore-is : checkHour c steps h ≡ Accepted → (X : List ℤ) → unitsTaken (h .readings) ≡ X → length X ≡ length (h .readings)
+      → valued (code (length X / 8)) (queryTotal q m steps X b) ≡ queryScore c steps h b
+  unfolding queryScore
+  queryScore-is e X same long = ap₂ (λ (v : Verdict) (X : List ℤ). valued v (queryTotal q m steps X b)) (ap (λ (n : ℕ). code (n / 8)) long ∙ sym (query-last e)) (sym same)
