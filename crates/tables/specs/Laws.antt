@@ -3,3 +3,4 @@ pub mod Counting
 pub mod Entries
 pub mod Sizes
 pub mod Sums
+pub mod Rows

@@ -16,6 +16,7 @@ use Rattle.layers.specs.Digits.{cut}
 use Rattle.layers.specs.Laws.Weights.{layerSum-up}
 use Rattle.layers.specs.Sums.{layerSum, pairSum}
 use Rattle.records.specs.Laws.Parts.{cut-long, cut-at}
+use Rattle.refusals.specs.Limits.{mMost}
 
 -- the first of a list, q times the second, q^2 times the third, and so on, together
 abbrev pub powerSum : ℕ → List ℤ → ℤ
@@ -86,6 +87,10 @@ module _ (g : List ℕ → ℤ) (m : ℕ) (ds : List ℕ) where
 
   pub terms-at : (j : ℕ) → j < m → «at» terms j ≡ g (take 8 (drop (8 * j) ds))
   terms-at j h = map-at g (cut 8 m ds) j [] (pos 0) (omega (arith, cut-long 8 m ds)) ∙ ap g (cut-at 8 m j ds h)
+
+-- for q = 2 and as many terms as a block has layers
+pub two-power : (n : ℕ) → n ≤ mMost → 2 ^ n ≤ 2 ^ mMost
+two-power n h = let two : 0 < 2 = omega arith in pow-le-pow-right two h
 
 -- a number that was read from n bits, the sign aside, is at most 2^n in magnitude
 pub read-small : (B : ℕ) (x : ℤ) → mag x < B → natAbs x ≤ B

@@ -1,0 +1,78 @@
+// The pair score of two code records by the pair table, for q = 2: sums of what the lent table holds (01, Scores).
+ghost use mathlib.Core.Path.{_≡_};
+ghost use mathlib.Core.List.{map};
+ghost use Prim.Native.Nat.{_*_, _^_, _≤_};
+ghost use lib.IntN.{pos, natAbs};
+ghost use lib.ListN.{length, take};
+ghost use Rattle.integers.specs.Vectors.{«at»};
+ghost use Rattle.layers.specs.Digits.{Below, IsCode, cut, entryOf};
+ghost use Rattle.records.specs.Codes.{Coder, IsBlock, AreBlocks, blockSize};
+ghost use Rattle.refusals.specs.Limits.{mMost};
+ghost use Rattle.scores.specs.Scores.{total};
+ghost use Rattle.tables.specs.Laws.Sums.{powerSum};
+ghost use Rattle.tables.specs.Scoring.{blockPairBy};
+ghost use Rattle.tables.specs.Tables.{pairSize};
+use layers::lookup;
+use records::codes;
+use records::decode;
+
+// The most layers of a block.
+const LAYERS_MOST: usize = 4;
+
+// The entry numbers of m layers, layer 0 first.
+fn entry_numbers(ds: &[u8], m: usize) -> [usize; LAYERS_MOST]
+    requires { ⌜ (m ≤ mMost) × IsCode 8 2 m (now ds) ⌝ }
+    ensures { λ r. ⌜ (length r ≡ mMost) × (take m r ≡ map (entryOf 2) (cut 8 m (now (ds .entry)))) ⌝ }
+{
+    let mut numbers: [usize; LAYERS_MOST] = [0; LAYERS_MOST];
+    let mut i: usize = 0;
+    while i < m {
+        let at = 8 * i;
+        let end = at + 8;
+        numbers[i] = lookup::entry_number(&ds[at..end], 2);
+        i = i + 1;
+    }
+    numbers
+}
+
+// The entries of one row of the table in m places, from the last down: each, and twice what those after it gave.
+fn row_sum(row: &[i8], numbers: &[usize; LAYERS_MOST], m: usize) -> i64
+    requires { ⌜ (length (now row) ≡ 256) × (m ≤ mMost) × (length (now numbers) ≡ mMost) × Below 256 (take m (now numbers)) ⌝ }
+    ensures value { λ r. ⌜ r ≡ powerSum 2 (map («at» (now (row .entry))) (take m (now (numbers .entry)))) ⌝ }
+    ensures small { λ r. ⌜ natAbs r ≤ 2 ^ 7 * 2 ^ mMost ⌝ }
+{
+    let mut z: i64 = 0;
+    let mut i = m;
+    while i > 0 {
+        i = i - 1;
+        z = row[numbers[i]] as i64 + 2 * z;
+    }
+    z
+}
+
+// Two coded blocks, from the first one's top layer down: the sum of its row, and twice what the layers above it gave; all of it s·t times.
+fn block_pair_by(
+    table: &[i8],
+    steps: &[i32],
+    b: &[u8],
+    steps2: &[i32],
+    b2: &[u8],
+    m: usize,
+) -> i64
+    requires { ⌜ Coder (pos 2) m (now steps) × Coder (pos 2) m (now steps2) × IsBlock (length (now steps)) 2 m (now b) × IsBlock (length (now steps2)) 2 m (now b2) × (pairSize ≤ length (now table)) ⌝ }
+    ensures value { λ r. ⌜ r ≡ blockPairBy m (now (steps .entry)) (now (steps2 .entry)) (now (table .entry)) (now (b .entry)) (now (b2 .entry)) ⌝ }
+    ensures small { λ r. ⌜ natAbs r ≤ 2 ^ 35 ⌝ }
+{
+    let numbers = entry_numbers(&b2[1..], m);
+    let mut z: i64 = 0;
+    let mut i = m;
+    while i > 0 {
+        i = i - 1;
+        let at = 8 * i + 1;
+        let end = at + 8;
+        let from = 256 * lookup::entry_number(&b[at..end], 2);
+        let to = from + 256;
+        z = row_sum(&table[from..to], &numbers, m) + 2 * z;
+    }
+    decode::step_of(steps, b) * decode::step_of(steps2, b2) * z
+}
