@@ -76,3 +76,28 @@ fn block_pair_by(
     }
     decode::step_of(steps, b) * decode::step_of(steps2, b2) * z
 }
+
+// The sum over k coded blocks and as many others.
+pub fn pair_total_by(
+    table: &[i8],
+    steps: &[i32],
+    body: &[u8],
+    steps2: &[i32],
+    body2: &[u8],
+    m: usize,
+    k: usize,
+) -> i64
+    requires { ⌜ Coder (pos 2) m (now steps) × Coder (pos 2) m (now steps2) × AreBlocks (length (now steps)) 2 m k (now body) × AreBlocks (length (now steps2)) 2 m k (now body2) × (pairSize ≤ length (now table)) × (k ≤ 64) ⌝ }
+    ensures { λ r. ⌜ r ≡ total (blockPairBy m (now (steps .entry)) (now (steps2 .entry)) (now (table .entry))) (cut (blockSize m) k (now (body .entry))) (cut (blockSize m) k (now (body2 .entry))) ⌝ }
+{
+    let n = codes::block_size(m);
+    let mut z: i64 = 0;
+    let mut i: usize = 0;
+    while i < k {
+        let at = n * i;
+        let end = at + n;
+        z = z + block_pair_by(table, steps, &body[at..end], steps2, &body2[at..end], m);
+        i = i + 1;
+    }
+    z
+}
