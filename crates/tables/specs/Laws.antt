@@ -4,3 +4,4 @@ pub mod Entries
 pub mod Sizes
 pub mod Sums
 pub mod Rows
+pub mod Filling

@@ -4,7 +4,7 @@ ghost use Rattle.layers.specs.Digits.{Below};
 ghost use Rattle.tables.specs.Tables.{countedUp};
 
 // The digits of the next entry number, in place of those of one; after the last comes the first.
-pub fn count_up(ds: &mut [u8], q: u8)
+pub(crate) fn count_up(ds: &mut [u8], q: u8)
     requires { ⌜ Below q (now ds) ⌝ }
     ensures { λ _. ⌜ now (ds .exit) ≡ countedUp q (now (ds .entry)) ⌝ }
 {
