@@ -6,7 +6,7 @@ use native.Mathlib.Nat.{pow-le-pow-left}
 use native.Mathlib.Numerals.{add-one}
 use native.Mathlib.Omega.{arith}
 use lib.IntN.{ℤ, pos}
-use lib.ListN.{length, getD, take, drop, length-map, List·getD-append}
+use lib.ListN.{length, getD, take, drop, length-append, length-map, List·getD-append}
 use lib.Seq.{getD-take, getD-drop, drop-drop}
 use Rattle.integers.specs.Laws.Loops.{range, range-long, range-at}
 use Rattle.integers.specs.Vectors.{«at», dot}
@@ -88,6 +88,14 @@ module _ (q : ℕ) where
   queryPart-at X i h = from-zero (λ (i : ℕ). dot X (layerAt q i)) (partSize q) i h
 
   module _ (X : List ℤ) where
+    pub queryTable-long : length (queryTable q X) ≡ partSize q * (length X / 8)
+    unfolding queryTable
+    queryTable-long = go (inBlocks X) ∙ ap (λ (n : ℕ). partSize q * n) (cut-long 8 (length X / 8) X)
+      where
+        go : (l : List (List ℤ)) → length (joined (map (queryPart q) l)) ≡ partSize q * length l
+        go [] = omega arith
+        go (x ∷ l) = simp length-append (omega (arith, queryPart-long x, go l))
+
     -- the parts of its blocks, whatever follows the table
     pub queryTable-parts : (rest : List ℤ) → cut (partSize q) (length X / 8) (queryTable q X ++ rest) ≡ map (queryPart q) (inBlocks X)
     unfolding queryTable
