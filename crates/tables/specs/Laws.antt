@@ -5,3 +5,4 @@ pub mod Sizes
 pub mod Sums
 pub mod Rows
 pub mod Filling
+pub mod Scoring

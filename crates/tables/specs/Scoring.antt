@@ -54,11 +54,13 @@ blockQueryBy q m steps p b = stepOf steps b *ℤ layerSum q 0 (λ ds. «at» p (
 unfoldable pub queryTotalBy : ℕ → ℕ → List ℤ → List ℤ → List ℕ → ℤ
 queryTotalBy q m steps t b = total (blockQueryBy q m steps) (cut (partSize q) (blocksIn m b) t) (codeBlocks m b)
 
--- settings; steps; q; the record's frame; the table's length, K·q^8 with the record's K; the record's bytes
+-- the record's frame; the table's length, K·q^8 with the record's K; the record's bytes
+unfoldable pub recordBy : ℕ → ℕ → ℕ → List ℕ → ℕ → Verdict
+recordBy steps q m b room = firstRefusal (checkFrame m 1 blocksMost 0 b ∷ checkEntries (partSize q * blocksIn m b) room ∷ checkBlocks steps q (blockSize m) 0 (codeBlocks m b) ∷ [])
+
+-- settings; steps; q; then the record and the table
 unfoldable pub checkQueryBy : Settings → List ℤ → List ℕ → ℕ → Verdict
-checkQueryBy c steps b room = let q = natAbs (c .q) in let m = natAbs (c .m) in
-    firstRefusal (checkSettings c ∷ checkSteps 0 steps ∷ checkTable queryMost c ∷ checkFrame m 1 blocksMost 0 b ∷ checkEntries (partSize q * blocksIn m b) room
-    ∷ checkBlocks (length steps) q (blockSize m) 0 (codeBlocks m b) ∷ [])
+checkQueryBy c steps b room = firstRefusal (checkSettings c ∷ checkSteps 0 steps ∷ checkTable queryMost c ∷ recordBy (length steps) (natAbs (c .q)) (natAbs (c .m)) b room ∷ [])
 
 -- the whole answer
 unfoldable pub queryScoreBy : Settings → List ℤ → List ℕ → List ℤ → Answer

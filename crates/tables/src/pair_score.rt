@@ -10,11 +10,17 @@ ghost use Rattle.records.specs.Codes.{Coder, IsBlock, AreBlocks, blockSize};
 ghost use Rattle.refusals.specs.Limits.{mMost};
 ghost use Rattle.scores.specs.Scores.{total};
 ghost use Rattle.tables.specs.Laws.Sums.{powerSum};
-ghost use Rattle.tables.specs.Scoring.{blockPairBy};
+ghost use Rattle.tables.specs.Scoring.{blockPairBy, checkPairBy, pairScoreBy};
 ghost use Rattle.tables.specs.Tables.{pairSize};
+use crate::pair_table;
 use layers::lookup;
+use records::asked;
 use records::codes;
 use records::decode;
+use refusals::Answer;
+use refusals::Verdict;
+use refusals::settings;
+use refusals::settings::Settings;
 
 // The most layers of a block.
 const LAYERS_MOST: usize = 4;
@@ -100,4 +106,55 @@ pub fn pair_total_by(
         i = i + 1;
     }
     z
+}
+
+// Refusals 1, 2 for the first list and for the second, those of the table, then the first record whole, then the second.
+fn check_pair_by(
+    s: Settings,
+    steps: &[i32],
+    code: &[u8],
+    steps2: &[i32],
+    code2: &[u8],
+    room: usize,
+) -> Verdict
+    ensures { λ r. ⌜ r ≡ checkPairBy s (now (steps .entry)) (now (code .entry)) (now (steps2 .entry)) (now (code2 .entry)) room ⌝ }
+{
+    match asked::check_coder(s, steps) {
+        Verdict::Refused(r) => Verdict::Refused(r),
+        Verdict::Accepted => match refusals::steps::check_steps(1, steps2) {
+            Verdict::Refused(r) => Verdict::Refused(r),
+            Verdict::Accepted => match pair_table::check_lent(s, room) {
+                Verdict::Refused(r) => Verdict::Refused(r),
+                Verdict::Accepted => {
+                    let q = settings::digit_values(s);
+                    let m = settings::layers(s);
+                    scores::codes::check_codes(code, steps.len(), code2, steps2.len(), q, m)
+                }
+            },
+        },
+    }
+}
+
+// The score of two code records by the lent table.
+pub fn pair_score_by_table(
+    s: Settings,
+    steps: &[i32],
+    code: &[u8],
+    steps2: &[i32],
+    code2: &[u8],
+    table: &[i8],
+) -> Answer
+    ensures answer { λ r. ⌜ r ≡ pairScoreBy s (now (steps .entry)) (now (code .entry)) (now (steps2 .entry)) (now (code2 .entry)) (now (table .entry)) ⌝ }
+{
+    match check_pair_by(s, steps, code, steps2, code2, table.len()) {
+        Verdict::Refused(r) => refusals::refused(r),
+        Verdict::Accepted => {
+            let m = settings::layers(s);
+            let k = codes::blocks_in(code, m);
+            Answer {
+                verdict: Verdict::Accepted,
+                value: pair_total_by(table, steps, &code[4..], steps2, &code2[4..], m, k),
+            }
+        }
+    }
 }

@@ -6,12 +6,21 @@ ghost use lib.ListN.{length};
 ghost use Rattle.layers.specs.Digits.{cut};
 ghost use Rattle.records.specs.Codes.{Coder, IsBlock, AreBlocks, blockSize};
 ghost use Rattle.scores.specs.Scores.{total};
-ghost use Rattle.tables.specs.Scoring.{blockQueryBy};
+ghost use Rattle.refusals.specs.Laws.Allowed.{Allowed};
+ghost use Rattle.tables.specs.Scoring.{blockQueryBy, recordBy, checkQueryBy, queryScoreBy};
 ghost use Rattle.tables.specs.Tables.{queryMost, partSize};
 use crate::parts;
+use crate::query_table;
 use layers::lookup;
+use records::asked;
 use records::codes;
 use records::decode;
+use records::frames;
+use refusals::Answer;
+use refusals::Refusal;
+use refusals::Verdict;
+use refusals::settings;
+use refusals::settings::Settings;
 
 // A coded block by its part of the table, from the top layer down: its entry, and q times what the layers above it gave; all of it s times.
 fn block_query_by(part: &[i32], steps: &[i32], b: &[u8], q: i64, m: usize) -> i64
@@ -57,4 +66,56 @@ pub fn query_total_by(
         i = i + 1;
     }
     z
+}
+
+// Of a record and the lent table: refusal 10, 3 where the table is shorter than K·q^8 with the record's K, then 7.
+fn check_record(s: Settings, steps: usize, code: &[u8], room: usize) -> Verdict
+    requires { ⌜ Allowed (s .q) (s .m) × (natAbs (s .q) ≤ queryMost) ⌝ }
+    ensures { λ r. ⌜ r ≡ recordBy steps (natAbs (s .q)) (natAbs (s .m)) (now (code .entry)) room ⌝ }
+{
+    let m = settings::layers(s);
+    let size = codes::block_size(m);
+    if frames::good_record(code, 1, size, 1, frames::BLOCKS_MOST) {
+        let k = codes::blocks_in(code, m);
+        match query_table::check_entries(s, k, room) {
+            Verdict::Refused(r) => Verdict::Refused(r),
+            Verdict::Accepted => {
+                let q = settings::digit_values(s);
+                codes::check_blocks(&code[4..], k, size, steps, q, 0)
+            }
+        }
+    } else {
+        Verdict::Refused(Refusal::Record(0))
+    }
+}
+
+// Refusals 1, 2 and 8, then those of the record and the table.
+fn check_query_by(s: Settings, steps: &[i32], code: &[u8], room: usize) -> Verdict
+    ensures { λ r. ⌜ r ≡ checkQueryBy s (now (steps .entry)) (now (code .entry)) room ⌝ }
+{
+    match asked::check_coder(s, steps) {
+        Verdict::Refused(r) => Verdict::Refused(r),
+        Verdict::Accepted => match query_table::check_table(s) {
+            Verdict::Refused(r) => Verdict::Refused(r),
+            Verdict::Accepted => check_record(s, steps.len(), code, room),
+        },
+    }
+}
+
+// The score of a code record by the lent table.
+pub fn query_score_by_table(s: Settings, steps: &[i32], code: &[u8], table: &[i32]) -> Answer
+    ensures answer { λ r. ⌜ r ≡ queryScoreBy s (now (steps .entry)) (now (code .entry)) (now (table .entry)) ⌝ }
+{
+    match check_query_by(s, steps, code, table.len()) {
+        Verdict::Refused(r) => refusals::refused(r),
+        Verdict::Accepted => {
+            let q = settings::base(s);
+            let m = settings::layers(s);
+            let k = codes::blocks_in(code, m);
+            Answer {
+                verdict: Verdict::Accepted,
+                value: query_total_by(table, steps, &code[4..], q, m, k),
+            }
+        }
+    }
 }
