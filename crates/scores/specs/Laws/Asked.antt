@@ -1,27 +1,28 @@
 -- What it says that an hour and a code record were taken for a score and not refused.
-use mathlib.Core.Path.{_≡_, sym, _∙_, ap, ap₂}
+use mathlib.Core.Path.{_≡_, refl, sym, _∙_, ap, ap₂, subst}
+use mathlib.Core.Bool.{Bool, true, false}
 use mathlib.Core.List.{List, [], _∷_, _++_}
-use Prim.Native.Nat.{ℕ, _*_, _/_, _≤_}
+use Prim.Native.Nat.{ℕ, _<_}
 use native.Mathlib.Omega.{arith}
-use lib.IntN.{ℤ, natAbs}
-use lib.ListN.{length, drop}
-use Rattle.integers.specs.Vectors.{Sized}
-use Rattle.records.specs.Codes.{AreBlocks, blockSize, blocksIn, codeBlocks, checkFrame, checkBlocks}
+use lib.IntN.{ℤ}
+use lib.ListN.{length, getD, drop}
+use Rattle.records.specs.Codes.{IsBlock, blockSize, blocksIn, codeBlocks, checkFrame, checkBlocks}
 use Rattle.records.specs.Encode.{UnitsTaken}
-use Rattle.records.specs.Frames.{wholeBlocks}
+use Rattle.records.specs.Frames.{wholeBlocks, goodRecord}
 use Rattle.records.specs.Laws.Asked.{CoderTaken, coder-taken, RecordTaken, record-taken}
 use Rattle.records.specs.Laws.Frames.{Framed, record-framed}
 use Rattle.records.specs.Laws.Hours.{Sound, units-small, taken-all}
+use Rattle.records.specs.Laws.Parts.{cut-at}
 use Rattle.records.specs.Vectors.{Hour, fvecsHour, checkReadings, unitsTaken}
 use Rattle.refusals.specs.declared.settings.Settings.{Settings}
 use Rattle.refusals.specs.declared.Refusal.the-variants.{Record}
 use Rattle.refusals.specs.declared.Verdict.{Verdict}
-use Rattle.refusals.specs.declared.Verdict.the-variants.{Accepted}
-use Rattle.refusals.specs.Laws.Verdicts.{unless-accepted, first-accepted, first-append}
+use Rattle.refusals.specs.declared.Verdict.the-variants.{Accepted, Refused}
+use Rattle.refusals.specs.Laws.Verdicts.{unless-accepted, first-accepted, first-last, first-append}
 use Rattle.refusals.specs.Limits.{blocksMost}
 use Rattle.refusals.specs.Settings.{checkSettings}
 use Rattle.refusals.specs.Steps.{checkSteps}
-use Rattle.refusals.specs.Verdicts.{firstRefusal}
+use Rattle.refusals.specs.Verdicts.{unless, firstRefusal}
 use Rattle.scores.specs.Hours.{checkHour, unitsFront, hourRoom}
 use Rattle.scores.specs.Scores.{checkCode}
 
@@ -32,9 +33,22 @@ code-taken steps q m least most place first b e =
     let bytes : Verdict = checkBlocks steps q (blockSize m) first (codeBlocks m b) in let f = first-accepted (checkFrame m least most place b) (bytes ∷ []) e in
     record-taken steps q m least most place first b (f .0) (first-accepted bytes [] (f .1) .0)
 
+-- its block i
+pub taken-block : (steps q m least most : ℕ) (b : List ℕ) → RecordTaken steps q m least most b → (i : ℕ) → i < blocksIn m b → IsBlock steps q m (getD (codeBlocks m b) i [])
+taken-block steps q m least most b h i k = subst (IsBlock steps q m) (sym (cut-at (blockSize m) (blocksIn m b) i (drop 4 b) k)) (h .blocks .each i k)
+
 -- of exactly K blocks
 pub exact-blocks : (m K : ℕ) (b : List ℕ) → Framed 1 (blockSize m) K K b → blocksIn m b ≡ K
 exact-blocks m K b h = omega (arith, h .whole .some, h .whole .few)
+
+-- so one of another number of blocks is refused by its place, whatever its bytes are
+pub other-refused : (steps q m K place first : ℕ) (b : List ℕ) → (blocksIn m b ≡ K → ⊥) → checkCode steps q m K K place first b ≡ Refused (Record place)
+unfolding checkCode
+other-refused steps q m K place first b apart = go (goodRecord 1 (blockSize m) K K b) (record-framed 1 (blockSize m) K K b)
+  where
+    go : (f : Bool) → (f ≡ true → Framed 1 (blockSize m) K K b) → firstRefusal (unless f (Record place) ∷ checkBlocks steps q (blockSize m) first (codeBlocks m b) ∷ []) ≡ Refused (Record place)
+    go true h = absurd (apart (exact-blocks m K b (h refl)))
+    go false h = refl
 
 -- an hour
 pub record HourTaken (c : Settings) (steps : List ℤ) (h : Hour) : Type 0 where
@@ -63,6 +77,12 @@ module _ (c : Settings) (steps : List ℤ) (h : Hour) where
   hour-is v f r d e g =
       first-append (checkSettings c ∷ checkSteps 0 steps ∷ []) (h .frame ∷ checkReadings 0 (h .readings) ∷ [])
       ∙ ap (λ (v : Verdict). firstRefusal (v ∷ h .frame ∷ checkReadings 0 (h .readings) ∷ [])) d ∙ ap₂ (λ (f r : Verdict). firstRefusal (v ∷ f ∷ r ∷ [])) e g
+
+  -- after settings, steps and count, the readings decide
+  pub hour-last : firstRefusal (checkSettings c ∷ checkSteps 0 steps ∷ h .frame ∷ []) ≡ Accepted → checkHour c steps h ≡ checkReadings 0 (h .readings)
+  unfolding checkHour
+  hour-last e = let readings : Verdict = checkReadings 0 (h .readings) in
+      first-append (checkSettings c ∷ checkSteps 0 steps ∷ h .frame ∷ []) (readings ∷ []) ∙ ap (λ (v : Verdict). firstRefusal (v ∷ readings ∷ [])) e ∙ first-last readings
 
   pub room-is : (v f : Verdict) (x : List ℤ) → firstRefusal (checkSettings c ∷ checkSteps 0 steps ∷ []) ≡ v → h .frame ≡ f → hourRoom c steps h x ≡ unitsFront (firstRefusal (v ∷ f ∷ [])) (unitsTaken (h .readings)) x
   unfolding hourRoom

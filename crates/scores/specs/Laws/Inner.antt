@@ -1,11 +1,10 @@
 -- Inner products of doubled points: a quarter is exact, and those of whole points are weighted sums over layers.
-use mathlib.Core.Path.{_≡_, refl, sym, _∙_, ap, ap₂}
-use mathlib.Core.List.{List, [], _∷_}
-use Prim.Native.Nat.{ℕ, zero, suc, _*_, _^_, _<_}
+use mathlib.Core.Path.{_≡_, refl, sym, _∙_, ap}
+use mathlib.Core.List.{List}
+use Prim.Native.Nat.{ℕ, _*_}
 use native.Mathlib.Omega.{arith}
 use lib.IntN.{ℤ, pos, natAbs, _+ℤ_, _*ℤ_, +ℤ-idr}
-use lib.ListN.{drop}
-use Rattle.integers.specs.Floor.{floorDiv, floorMod}
+use Rattle.integers.specs.Floor.{floorDiv}
 use Rattle.integers.specs.Laws.Floors.{floor-split}
 use Rattle.integers.specs.Laws.Sizes.{abs-mul}
 use Rattle.integers.specs.Vectors.{dot}

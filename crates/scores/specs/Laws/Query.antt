@@ -1,20 +1,23 @@
 -- The order of a query score, and what its core answers.
-use mathlib.Core.Path.{_≡_, sym, _∙_, ap, ap₂}
+use mathlib.Core.Path.{_≡_, refl, sym, _∙_, ap, ap₂}
 use mathlib.Core.List.{List, [], _∷_}
 use Prim.Native.Nat.{ℕ, _/_}
 use lib.IntN.{ℤ, pos, natAbs}
 use lib.ListN.{length}
+use Rattle.records.specs.Laws.Asked.{RecordTaken}
+use Rattle.records.specs.Laws.Hours.{Sound}
 use Rattle.records.specs.Vectors.{Hour, checkReadings, unitsTaken, blocksOf}
 use Rattle.refusals.specs.declared.settings.Settings.{Settings}
 use Rattle.refusals.specs.declared.Refusal.{Refusal}
 use Rattle.refusals.specs.declared.Verdict.{Verdict}
 use Rattle.refusals.specs.declared.Verdict.the-variants.{Accepted, Refused}
 use Rattle.refusals.specs.Answers.{valued}
-use Rattle.refusals.specs.Laws.Verdicts.{first-last, first-append}
+use Rattle.refusals.specs.Laws.Verdicts.{first-accepted, first-last, first-append}
 use Rattle.refusals.specs.Settings.{checkSettings}
 use Rattle.refusals.specs.Steps.{checkSteps}
 use Rattle.refusals.specs.Verdicts.{firstRefusal}
 use Rattle.scores.specs.Hours.{checkHour}
+use Rattle.scores.specs.Laws.Asked.{code-taken, HourTaken, hour-taken}
 use Rattle.scores.specs.Scores.{queryTotal, checkCode, checkQuery, queryScore}
 
 module _ (c : Settings) (steps : List ℤ) (h : Hour) (b : List ℕ) where
@@ -51,3 +54,16 @@ module _ (c : Settings) (steps : List ℤ) (h : Hour) (b : List ℕ) where
       → valued (code (length X / 8)) (queryTotal q m steps X b) ≡ queryScore c steps h b
   unfolding queryScore
   queryScore-is e X same long = ap₂ (λ (v : Verdict) (X : List ℤ). valued v (queryTotal q m steps X b)) (ap (λ (n : ℕ). code (n / 8)) long ∙ sym (query-last e)) (sym same)
+
+-- the hour and the record of an accepted query
+pub record QueryTaken (c : Settings) (steps : List ℤ) (h : Hour) (b : List ℕ) : Type 0 where
+  pub hour : HourTaken c steps h
+  pub code : RecordTaken (length steps) (natAbs (c .q)) (natAbs (c .m)) (blocksOf h) (blocksOf h) b
+
+pub query-taken : (c : Settings) (steps : List ℤ) (h : Hour) (b : List ℕ) → Sound h → checkQuery c steps h b ≡ Accepted → QueryTaken c steps h b
+query-taken c steps h b sound e =
+    let last : Verdict = code c steps h b (blocksOf h) in let t = first-accepted (checkHour c steps h) (last ∷ []) (sym (opened c steps h b (checkHour c steps h) refl) ∙ e) in
+    record {
+      hour = hour-taken c steps h sound (t .0);
+      code = code-taken (length steps) (natAbs (c .q)) (natAbs (c .m)) (blocksOf h) (blocksOf h) 0 0 b (first-accepted last [] (t .1) .0);
+    }

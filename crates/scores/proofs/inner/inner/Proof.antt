@@ -1,6 +1,6 @@
 -- `inner` shifts the sum right by two places, which divides by 4 and rounds down.
 use borrow.Author.Needs.{needs}
-use mathlib.Core.Path.{_≡_, _∙_, ap}
+use mathlib.Core.Path.{_∙_, ap}
 use native.Mathlib.Omega.{arith}
 use lib.IntN.{ℤ}
 use lib.Signed.{shrZ, mag-shr}
