@@ -6,3 +6,5 @@ pub mod Sums
 pub mod Rows
 pub mod Filling
 pub mod Scoring
+pub mod Same
+pub mod Theorems

@@ -57,14 +57,7 @@ fn row_sum(row: &[i8], numbers: &[usize; LAYERS_MOST], m: usize) -> i64
 }
 
 // Two coded blocks, from the first one's top layer down: the sum of its row, and twice what the layers above it gave; all of it s·t times.
-fn block_pair_by(
-    table: &[i8],
-    steps: &[i32],
-    b: &[u8],
-    steps2: &[i32],
-    b2: &[u8],
-    m: usize,
-) -> i64
+fn block_pair_by(table: &[i8], steps: &[i32], b: &[u8], steps2: &[i32], b2: &[u8], m: usize) -> i64
     requires { ⌜ Coder (pos 2) m (now steps) × Coder (pos 2) m (now steps2) × IsBlock (length (now steps)) 2 m (now b) × IsBlock (length (now steps2)) 2 m (now b2) × (pairSize ≤ length (now table)) ⌝ }
     ensures value { λ r. ⌜ r ≡ blockPairBy m (now (steps .entry)) (now (steps2 .entry)) (now (table .entry)) (now (b .entry)) (now (b2 .entry)) ⌝ }
     ensures small { λ r. ⌜ natAbs r ≤ 2 ^ 35 ⌝ }

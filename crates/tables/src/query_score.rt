@@ -42,14 +42,7 @@ fn block_query_by(part: &[i32], steps: &[i32], b: &[u8], q: i64, m: usize) -> i6
 }
 
 // The sum over k coded blocks, each by its own part of the table.
-pub fn query_total_by(
-    table: &[i32],
-    steps: &[i32],
-    body: &[u8],
-    q: i64,
-    m: usize,
-    k: usize,
-) -> i64
+pub fn query_total_by(table: &[i32], steps: &[i32], body: &[u8], q: i64, m: usize, k: usize) -> i64
     requires { ⌜ Coder q m (now steps) × AreBlocks (length (now steps)) (natAbs q) m k (now body) × (natAbs q ≤ queryMost) × (partSize (natAbs q) * k ≤ length (now table)) × (k ≤ 64) ⌝ }
     ensures { λ r. ⌜ r ≡ total (blockQueryBy (natAbs q) m (now (steps .entry))) (cut (partSize (natAbs q)) k (now (table .entry))) (cut (blockSize m) k (now (body .entry))) ⌝ }
 {

@@ -1,7 +1,7 @@
 -- Counting up: the digits of an entry number, counted up, are those of the next; all start at 0.
 use mathlib.Core.Path.{_≡_, refl, sym, _∙_, ap, ap₂, subst}
 use mathlib.Core.Bool.{Bool, true, false, cond}
-use mathlib.Core.List.{List, [], _∷_, _++_, append-nil}
+use mathlib.Core.List.{List, _∷_, _++_, append-nil}
 use Prim.Native.Nat.{ℕ, zero, suc, _+_, _*_, _/_, _%_, _<_, _≤_}
 use native.Mathlib.Nat.{div-add-mod, mod-lt, mod-eq-of-lt, div-eq-of-lt, zero-div, zero-mod, add-mul-div-left, add-mul-mod-self-left, mul-div-right, mul-mod-right}
 use native.Mathlib.Omega.{arith}

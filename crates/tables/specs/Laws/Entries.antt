@@ -6,14 +6,14 @@ use native.Mathlib.Nat.{pow-le-pow-left}
 use native.Mathlib.Numerals.{add-one}
 use native.Mathlib.Omega.{arith}
 use lib.IntN.{ℤ, pos}
-use lib.ListN.{length, getD, take, drop, length-append, length-map, List·getD-append}
+use lib.ListN.{length, take, drop, length-append, length-map, List·getD-append}
 use lib.Seq.{getD-take, getD-drop, drop-drop}
 use Rattle.integers.specs.Laws.Loops.{range, range-long, range-at}
 use Rattle.integers.specs.Vectors.{«at», dot}
-use Rattle.layers.specs.Digits.{IsLayer, joined, cut, entryOf, digitsOf}
+use Rattle.layers.specs.Digits.{IsLayer, joined, cut, entryOf}
 use Rattle.layers.specs.E8.{layerPoint8}
 use Rattle.layers.specs.Laws.Entries.{entryOf-less, digitsOf-entryOf, row-at, rows-long}
-use Rattle.records.specs.Laws.Parts.{cut-long, cut-made, joined-more}
+use Rattle.records.specs.Laws.Parts.{cut-long, cut-at, cut-made, part-made, joined-more}
 use Rattle.records.specs.Vectors.{inBlocks}
 use Rattle.scores.specs.Scores.{inner}
 use Rattle.tables.specs.Tables.{queryMost, partSize, layerAt, pairRow, pairTable, queryPart, queryTable}
@@ -76,6 +76,7 @@ pub pairTable-at : (rest : List ℤ) (i j : ℕ) → i < 256 → j < 256 → «a
 pairTable-at rest i j h k =
     List·getD-append pairTable rest (pos 0) (256 * i + j) (omega (arith, pairTable-long))
     ∙ sym (getD-drop (256 * i) pairTable j (pos 0)) ∙ sym (getD-take 256 (drop (256 * i) pairTable) j (pos 0) k) ∙ ap (λ (r : List ℤ). «at» r j) (row-is i h) ∙ pairRow-at (layerAt 2 i) j k
+
 -- ---- the query table
 
 module _ (q : ℕ) where
@@ -101,6 +102,14 @@ module _ (q : ℕ) where
     unfolding queryTable
     queryTable-parts rest = subst (λ (k : ℕ). cut (partSize q) k (joined (map (queryPart q) (inBlocks X)) ++ rest) ≡ map (queryPart q) (inBlocks X)) (cut-long 8 (length X / 8) X)
         (cut-made (queryPart q) (partSize q) queryPart-long (inBlocks X) rest)
+
+    -- entry q^8 k + i is the sum over block k and the layer point i
+    pub queryTable-at : (rest : List ℤ) (k i : ℕ) → k < length X / 8 → i < partSize q → «at» (queryTable q X ++ rest) (partSize q * k + i) ≡ dot (take 8 (drop (8 * k) X)) (layerAt q i)
+    unfolding queryTable
+    queryTable-at rest k i h l = let n : ℕ = partSize q in let t : List ℤ = joined (map (queryPart q) (inBlocks X)) ++ rest in
+        sym (getD-drop (n * k) t i (pos 0)) ∙ sym (getD-take n (drop (n * k) t) i (pos 0) l)
+        ∙ ap (λ (p : List ℤ). «at» p i) (part-made (queryPart q) n queryPart-long (inBlocks X) rest k [] (omega (arith, cut-long 8 (length X / 8) X)) ∙ ap (queryPart q) (cut-at 8 (length X / 8) k X h))
+        ∙ queryPart-at (take 8 (drop (8 * k) X)) i l
 
 -- ---- lengths that code calculates with
 

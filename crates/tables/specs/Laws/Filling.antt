@@ -87,6 +87,7 @@ module _ (c : Settings) where
     pub record QueryTableTaken : Type 0 where
       pub allowed : Allowed (c .q) (c .m)
       pub most : q ≤ queryMost
+      pub framed : h .frame ≡ Accepted
       pub units : UnitsTaken (unitsTaken (h .readings))
       pub whole : length (unitsTaken (h .readings)) ≡ length (h .readings)
       pub taken : readings ≡ Accepted
@@ -101,6 +102,7 @@ module _ (c : Settings) where
         record {
           allowed = checked-allowed c (s .0);
           most = table-taken queryMost c (t .0);
+          framed = f .0;
           units = record { whole = ap (wholeBlocks 8 1 blocksMost) whole ∙ sound .counted (f .0); small = units-small (h .readings) (sound .ranged) };
           whole = whole;
           taken = r .0;

@@ -1,16 +1,18 @@
 -- The order of scoring by table, and what it says that records and a table were taken.
-use mathlib.Core.Path.{_≡_, refl, sym, _∙_, ap, ap₂}
+use mathlib.Core.Path.{_≡_, refl, sym, _∙_, ap, ap₂, subst}
 use mathlib.Core.Bool.{Bool}
 use mathlib.Core.List.{List, [], _∷_, _++_}
 use Prim.Native.Nat.{ℕ, _*_, _≤_}
 use native.Mathlib.Omega.{arith}
+use borrow.Author.Tests.{le-leb}
 use lib.IntN.{ℤ, pos, natAbs}
 use lib.ListN.{length}
 use Rattle.records.specs.Codes.{blockSize, blocksIn, codeBlocks, checkFrame, checkBlocks}
-use Rattle.records.specs.Frames.{goodRecord}
+use Rattle.records.specs.Frames.{wholeBlocks, goodRecord}
 use Rattle.records.specs.Laws.Asked.{CoderTaken, coder-taken, RecordTaken, record-taken}
+use Rattle.records.specs.Vectors.{Hour, checkReadings, blocksOf}
 use Rattle.refusals.specs.declared.settings.Settings.{Settings}
-use Rattle.refusals.specs.declared.Refusal.the-variants.{Record}
+use Rattle.refusals.specs.declared.Refusal.the-variants.{Table, Size, Record}
 use Rattle.refusals.specs.declared.Verdict.{Verdict}
 use Rattle.refusals.specs.declared.Verdict.the-variants.{Accepted, Refused}
 use Rattle.refusals.specs.Laws.Verdicts.{first-accepted, first-append}
@@ -19,7 +21,7 @@ use Rattle.refusals.specs.Settings.{checkSettings}
 use Rattle.refusals.specs.Steps.{checkSteps}
 use Rattle.refusals.specs.Verdicts.{unless, firstRefusal}
 use Rattle.scores.specs.Laws.Pair.{PairTaken, pair-taken}
-use Rattle.scores.specs.Scores.{checkCode, checkPair}
+use Rattle.scores.specs.Scores.{checkCode, checkPair, checkQuery}
 use Rattle.tables.specs.Filling.{checkTable, checkEntries}
 use Rattle.tables.specs.Laws.Filling.{table-taken, entries-taken}
 use Rattle.tables.specs.Scoring.{checkPairBy, recordBy, checkQueryBy}
@@ -30,6 +32,10 @@ group : (a b c : List Verdict) → firstRefusal (a ++ (b ++ c)) ≡ firstRefusal
 group [] b c = first-append b c
 group (Accepted ∷ a) b c = group a b c
 group (Refused r ∷ a) b c = refl
+
+-- a check that accepts may be left out
+pub first-without : (a c : List Verdict) → firstRefusal (a ++ (Accepted ∷ c)) ≡ firstRefusal (a ++ c)
+first-without a c = sym (group a [] c)
 
 -- ---- by the pair table
 
@@ -70,7 +76,8 @@ module _ (c : Settings) (steps : List ℤ) (b : List ℕ) (steps′ : List ℤ) 
   pub pair-by-same : table ≡ Accepted → long ≡ Accepted → checkPairBy c steps b steps′ b′ room ≡ checkPair c steps b steps′ b′
   unfolding checkPairBy checkPair
   pair-by-same e f = let before : List Verdict = checkSettings c ∷ checkSteps 0 steps ∷ checkSteps 1 steps′ ∷ [] in
-      ap₂ (λ (t l : Verdict). firstRefusal (before ++ (t ∷ l ∷ here ∷ there ∷ []))) e f ∙ sym (group before [] (Accepted ∷ here ∷ there ∷ [])) ∙ sym (group before [] (here ∷ there ∷ []))
+      ap₂ (λ (t l : Verdict). firstRefusal (before ++ (t ∷ l ∷ here ∷ there ∷ []))) e f
+      ∙ first-without before (Accepted ∷ here ∷ there ∷ []) ∙ first-without before (here ∷ there ∷ [])
 
   pub record PairByTaken : Type 0 where
     pub pair : PairTaken c steps b steps′ b′
@@ -129,3 +136,30 @@ module _ (c : Settings) (steps : List ℤ) (b : List ℕ) (room : ℕ) where
       let s = first-accepted (checkSettings c) (listed ∷ table ∷ rest ∷ []) e in let l = first-accepted listed (table ∷ rest ∷ []) (s .1) in let t = first-accepted table (rest ∷ []) (l .1) in
       let r = record-by-taken (length steps) (natAbs (c .q)) (natAbs (c .m)) b room (first-accepted rest [] (t .1) .0) in
       record { taken = coder-taken c 0 steps (s .0) (l .0); most = table-taken queryMost c (t .0); code = r .0; fits = r .1 }
+
+-- ---- a record of exactly K blocks
+
+module _ (m K : ℕ) (b : List ℕ) (count : blocksIn m b ≡ K) (some : 1 ≤ K) (few : K ≤ blocksMost) where
+  -- its frame is good where that of any K is
+  exact-frame : checkFrame m K K 0 b ≡ checkFrame m 1 blocksMost 0 b
+  unfolding goodRecord wholeBlocks
+  exact-frame = let k : ℕ = blocksIn m b in
+      rw (le-leb K k (omega arith), le-leb k K (omega arith), le-leb 1 k (omega arith), le-leb k blocksMost (omega arith))
+
+  -- so where the table is long enough, it is checked as in the plain score
+  pub record-by-same : (steps q room : ℕ) → partSize q * K ≤ room → recordBy steps q m b room ≡ checkCode steps q m K K 0 0 b
+  unfolding recordBy checkCode
+  record-by-same steps q room h =
+      let bytes : Verdict = checkBlocks steps q (blockSize m) 0 (codeBlocks m b) in
+      let long : checkEntries (partSize q * blocksIn m b) room ≡ Accepted = ap (λ (t : Bool). unless t (Size 2)) (le-leb (partSize q * blocksIn m b) room (subst (λ (k : ℕ). partSize q * k ≤ room) (sym count) h)) in
+      ap₂ (λ (f l : Verdict). firstRefusal (f ∷ l ∷ bytes ∷ [])) (sym exact-frame) long ∙ first-without (checkFrame m K K 0 b ∷ []) (bytes ∷ [])
+
+-- where q is one that the table is for and the query was taken, the order is that of the plain score
+pub query-by-same : (c : Settings) (steps : List ℤ) (h : Hour) (b : List ℕ) (room : ℕ) → let K = blocksOf h in blocksIn (natAbs (c .m)) b ≡ K → 1 ≤ K → K ≤ blocksMost → natAbs (c .q) ≤ queryMost
+    → partSize (natAbs (c .q)) * K ≤ room → h .frame ≡ Accepted → checkReadings 0 (h .readings) ≡ Accepted → checkQueryBy c steps b room ≡ checkQuery c steps h b
+unfolding checkQueryBy checkQuery
+query-by-same c steps h b room count some few most long e f =
+    let q : ℕ = natAbs (c .q) in let m : ℕ = natAbs (c .m) in let K : ℕ = blocksOf h in let before : List Verdict = checkSettings c ∷ checkSteps 0 steps ∷ [] in
+    let code : Verdict = checkCode (length steps) q m K K 0 0 b in let table : checkTable queryMost c ≡ Accepted = ap (λ (t : Bool). unless t Table) (le-leb q queryMost most) in
+    ap₂ (λ (t r : Verdict). firstRefusal (before ++ (t ∷ r ∷ []))) table (record-by-same m K b count some few (length steps) q room long) ∙ first-without before (code ∷ [])
+    ∙ sym (ap₂ (λ (f r : Verdict). firstRefusal (before ++ (f ∷ r ∷ code ∷ []))) e f ∙ first-without before (Accepted ∷ code ∷ []) ∙ first-without before (code ∷ []))

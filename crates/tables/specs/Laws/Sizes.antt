@@ -1,8 +1,6 @@
 -- How large the entries of the tables are: each coordinate of a layer point is at most 2 q, and nothing else is used.
-use mathlib.Core.Path.{_≡_}
 use mathlib.Core.List.{List}
 use Prim.Native.Nat.{ℕ, _*_, _^_, _<_, _≤_}
-use native.Mathlib.Nat.{mul-le-mul, le-refl}
 use native.Mathlib.Omega.{arith}
 use lib.IntN.{ℤ, natAbs}
 use Rattle.integers.specs.Laws.Sums.{sized-more}

@@ -1,7 +1,7 @@
 -- Sums over layers as code makes them, from the top layer down: q times what the layers above gave, and one layer more.
 use mathlib.Core.Path.{_≡_, refl, sym, _∙_, ap, ap₂}
 use mathlib.Core.List.{List, [], _∷_, map}
-use Prim.Native.Nat.{ℕ, suc, _+_, _*_, _-_, _^_, _<_, _≤_}
+use Prim.Native.Nat.{ℕ, zero, suc, _+_, _*_, _-_, _^_, _<_, _≤_}
 use native.Mathlib.Nat.{mul-le-mul, le-refl, le-trans, pow-zero, pow-succ', pow-le-pow-right}
 use native.Mathlib.Omega.{arith}
 use lib.IntN.{ℤ, pos, negsuc, natAbs, _+ℤ_, _*ℤ_}
@@ -12,7 +12,7 @@ use Rattle.integers.specs.Laws.Difference.{ints, byD₂}
 use Rattle.integers.specs.Laws.Loops.{map-at}
 use Rattle.integers.specs.Laws.Sizes.{abs-add, abs-mul}
 use Rattle.integers.specs.Vectors.{«at»}
-use Rattle.layers.specs.Digits.{cut}
+use Rattle.layers.specs.Digits.{IsLayer, IsLayers, cut}
 use Rattle.layers.specs.Laws.Weights.{layerSum-up}
 use Rattle.layers.specs.Sums.{layerSum, pairSum}
 use Rattle.records.specs.Laws.Parts.{cut-long, cut-at}
@@ -47,6 +47,19 @@ module _ (q : ℕ) where
     pub pair-power : (a : List (List ℕ)) → pairSum q 0 f a b ≡ powerSum q (map (λ (d : List ℕ). powerSum q (map (f d) b)) a)
     pair-power [] = refl
     pair-power (ds ∷ a) = ap₂ _+ℤ_ (layer-power (f ds) b) (pairSum-up 0 a ∙ ap (λ (t : ℤ). pos q *ℤ t) (pair-power a))
+
+-- sums of equal terms over layers are equal
+module _ (q : ℕ) where
+  pub layer-same : (f g : List ℕ → ℤ) → ((d : List ℕ) → IsLayer 8 q d → f d ≡ g d) → (i m : ℕ) (l : List (List ℕ)) → IsLayers 8 q m l → layerSum q i f l ≡ layerSum q i g l
+  layer-same f g e i m [] h = refl
+  layer-same f g e i zero (d ∷ l) h = absurd h
+  layer-same f g e i (suc m) (d ∷ l) h = ap₂ (λ (x t : ℤ). pos (q ^ i) *ℤ x +ℤ t) (e d (h .0)) (layer-same f g e (suc i) m l (h .1))
+
+  pub pair-same : (f g : List ℕ → List ℕ → ℤ) → ((d e : List ℕ) → IsLayer 8 q d → IsLayer 8 q e → f d e ≡ g d e) → (i m : ℕ) (a b : List (List ℕ)) → IsLayers 8 q m a → (m′ : ℕ) → IsLayers 8 q m′ b
+      → pairSum q i f a b ≡ pairSum q i g a b
+  pair-same f g e i m [] b h m′ k = refl
+  pair-same f g e i zero (d ∷ a) b h m′ k = absurd h
+  pair-same f g e i (suc m) (d ∷ a) b h m′ k = ap₂ _+ℤ_ (layer-same (f d) (g d) (λ x. e d x (h .0)) i m′ b k) (pair-same f g e (suc i) m a b (h .1) m′ k)
 
 -- a sum made from the last term to the first: it holds those from i on, and stays below a power of q times the largest term
 pub record Summed (q B : ℕ) (l : List ℤ) (i : ℕ) (z : ℤ) : Type 0 where

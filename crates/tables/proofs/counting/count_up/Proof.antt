@@ -1,11 +1,11 @@
 -- `count_up` goes from the first digit on: those before k are done, and it ends at the first that goes up.
 use borrow.Author.Needs.{needs}
-use mathlib.Core.Path.{_≡_, refl, _∙_, ap}
+use mathlib.Core.Path.{refl}
 use mathlib.Core.List.{List}
-use Prim.Native.Nat.{ℕ, suc, _-_, _<_, _≤_}
+use Prim.Native.Nat.{ℕ, _-_, _<_, _≤_}
 use native.Mathlib.Numerals.{add-one}
 use native.Mathlib.Omega.{arith}
-use lib.ListN.{length, getD, set}
+use lib.ListN.{length, getD}
 use Rattle.tables.specs.Laws.Counting.{Carrying, carrying-digit, carrying-up, carrying-on, carrying-done}
 use Rattle.tables.proofs.counting.count_up.Statement.{statement}
 use Rattle.tables.proofs.counting.count_up.Tie as tie

@@ -1,5 +1,5 @@
 -- `block_pair_by` goes from the first block's top layer down: it holds the sums of the rows of the layers from i on, which stay small whatever the table holds.
-use mathlib.Core.Path.{_≡_, refl, sym, _∙_, ap, ap₂, subst}
+use mathlib.Core.Path.{_≡_, sym, _∙_, ap, ap₂, subst}
 use mathlib.Core.List.{List, map}
 use Prim.Native.Nat.{ℕ, _+_, _*_, _-_, _^_, _<_, _≤_}
 use native.Mathlib.Omega.{arith}
@@ -205,7 +205,7 @@ module _ (c : tie.After-step-of2 Inv-loop μ-loop) where
   value-is = let none : h .loop .i ≡ 0 = omega (arith, c .before .before .loop-test .left) in
       ap₂ (λ (u v : ℤ). u *ℤ v *ℤ y) (c .before .step-of .ensures) (c .step-of2 .ensures)
       ∙ ap (λ (z : ℤ). stepOf (r .args .steps .now) (b r) *ℤ stepOf (r .args .steps2 .now) (b′ r) *ℤ z)
-        (summed-all 2 B (all r) (h .loop .i) y (h .loop .inv) none ∙ sym (pair-power 2 (pairEntry (t r)) (cut 8 (m r) (drop 1 (b′ r))) (cut 8 (m r) (drop 1 (b r)))))
+      (summed-all 2 B (all r) (h .loop .i) y (h .loop .inv) none ∙ sym (pair-power 2 (pairEntry (t r)) (cut 8 (m r) (drop 1 (b′ r))) (cut 8 (m r) (drop 1 (b r)))))
 
 sub-entry-numbers : tie.Need-sub-entry-numbers Inv-loop μ-loop
 sub-entry-numbers c = omega (arith, c .before .before .pre .3 .long)

@@ -1,6 +1,6 @@
 -- `pair_score_by_table` answers what is refused, and else the total over the blocks of both records, of which there are equally many.
 use borrow.Author.Needs.{needs}
-use mathlib.Core.Path.{_≡_, refl, sym, _∙_, ap, ap₂, subst, subst₂}
+use mathlib.Core.Path.{_≡_, sym, _∙_, ap, ap₂, subst, subst₂}
 use mathlib.Core.List.{List}
 use Prim.Native.Nat.{ℕ, _-_}
 use native.Mathlib.Omega.{arith}

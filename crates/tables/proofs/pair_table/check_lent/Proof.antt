@@ -8,7 +8,6 @@ use borrow.Author.Tests.{le-leb, lt-leb}
 use lib.Dec.{leb}
 use lib.IntN.{natAbs}
 use Rattle.refusals.specs.declared.Refusal.the-variants.{Table, Size}
-use Rattle.refusals.specs.declared.Verdict.{Verdict}
 use Rattle.refusals.specs.Verdicts.{unless, firstRefusal}
 use Rattle.tables.proofs.pair_table.check_lent.Statement.{statement}
 use Rattle.tables.proofs.pair_table.check_lent.Tie as tie

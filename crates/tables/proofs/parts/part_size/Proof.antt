@@ -1,6 +1,6 @@
 -- q is positive and at most 4, so its eighth power is far below 2^64.
 use mathlib.Core.Path.{_∙_, ap, subst}
-use Prim.Native.Nat.{ℕ, _^_}
+use Prim.Native.Nat.{_^_}
 use native.Mathlib.Omega.{arith}
 use lib.Dec.{T}
 use lib.IntN.{ℤ, natAbs}

@@ -1,22 +1,20 @@
 -- `block_query_by` goes from the top layer down: it holds the sum of the entries of the layers from i on, which stays small whatever they are.
-use mathlib.Core.Path.{_≡_, refl, sym, _∙_, ap, ap₂, subst}
+use mathlib.Core.Path.{_≡_, sym, _∙_, ap, ap₂, subst}
 use mathlib.Core.List.{List}
 use Prim.Native.Nat.{ℕ, _+_, _*_, _-_, _^_, _<_, _≤_}
 use native.Mathlib.Omega.{arith}
-use borrow.Author.Needs.{needs}
 use lib.Dec.{T}
 use lib.IntN.{ℤ, pos, natAbs, _+ℤ_, _*ℤ_}
 use lib.ListN.{length, getD, take, drop}
 use lib.Signed.{nonNeg}
 use mir.Syntax.{w32, w64}
-use mir.Val.{SFits, Fits, toZ, ofZ}
+use mir.Val.{SFits, toZ, ofZ}
 use mir.Facts.{toZ-ofZ, sfits-widen}
-use Rattle.integers.specs.Laws.Sizes.{abs-fits, fits-abs, fits-mul, abs-mul-le}
+use Rattle.integers.specs.Laws.Sizes.{fits-abs, fits-mul, abs-mul-le}
 use Rattle.integers.specs.Vectors.{«at»}
 use Rattle.layers.specs.Digits.{IsLayer, cut, entryOf}
 use Rattle.layers.specs.Laws.Bases.{base-is, base-two}
 use Rattle.layers.specs.Laws.Loops.{code-layer}
-use Rattle.records.specs.Decode.{stepOf}
 use Rattle.scores.specs.Laws.Sizes.{step-small}
 use Rattle.tables.specs.Laws.Entries.{entry-within, part-most, layer-power-small, block-layer}
 use Rattle.tables.specs.Laws.Sums.{Summed, summed-none, summed-more, summed-most, summed-all, terms, terms-long, terms-at, layer-power, read-small}
@@ -127,8 +125,11 @@ module _ (c : tie.After-z Inv-loop μ-loop) where
       (ap (λ (n : ℕ). «at» (p t) n) (n-is e ∙ ap (entryOf (q t)) (block-layer (b t) (j (k e)))) ∙ sym (terms-at (entry (q t) (p t)) (m t) (drop 1 (b t)) (j (k e)) (within (k e)))) x-small)
 
   more-fits : SFits w64 (x +ℤ s t .args .q *ℤ z t)
-  more-fits = fits-abs _ (omega (arith, summed-most (q t) (2 ^ 31) (all t) (j (k e)) (x +ℤ s t .args .q *ℤ z t) more (omega (arith, two t)) 4096
-      (subst (λ (n : ℕ). q t ^ n ≤ 4096) (sym (terms-long (entry (q t) (p t)) (m t) (drop 1 (b t)))) (s t .pre .0 .power))))
+  more-fits = fits-abs _ (omega (
+    arith,
+    summed-most (q t) (2 ^ 31) (all t) (j (k e)) (x +ℤ s t .args .q *ℤ z t) more (omega (arith, two t)) 4096
+        (subst (λ (n : ℕ). q t ^ n ≤ 4096) (sym (terms-long (entry (q t) (p t)) (m t) (drop 1 (b t)))) (s t .pre .0 .power)),
+  ))
 
 -- the step, and all of it
 module _ (c : tie.After-step-of Inv-loop μ-loop) where

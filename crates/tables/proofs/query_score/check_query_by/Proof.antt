@@ -1,7 +1,7 @@
 -- `check_query_by` is the list of checks: the first two are made as one, and so are those of the record and the table.
 use borrow.Author.Needs.{needs}
 use mathlib.Core.Path.{_≡_, refl, sym, _∙_}
-use mathlib.Core.List.{List, [], _∷_}
+use mathlib.Core.List.{[], _∷_}
 use lib.IntN.{natAbs}
 use lib.ListN.{length}
 use Rattle.records.specs.Laws.Asked.{CoderTaken, coder-accepted}

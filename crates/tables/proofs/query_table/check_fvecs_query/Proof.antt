@@ -6,12 +6,11 @@ use mathlib.Core.List.{List, [], _∷_}
 use Prim.Native.Nat.{ℕ, _*_, _/_, _≤_}
 use native.Mathlib.Omega.{arith}
 use lib.IntN.{natAbs}
-use lib.ListN.{length}
 use Rattle.readings.specs.Words.{wordAt}
 use Rattle.records.specs.Frames.{goodRecord}
 use Rattle.records.specs.Laws.Frames.{Framed, record-framed}
 use Rattle.records.specs.Laws.Hours.{fvecs-count}
-use Rattle.records.specs.Vectors.{Hour, fvecsHour}
+use Rattle.records.specs.Vectors.{fvecsHour}
 use Rattle.refusals.specs.declared.Refusal.the-variants.{Record}
 use Rattle.refusals.specs.declared.Verdict.{Verdict}
 use Rattle.refusals.specs.Laws.Allowed.{Allowed}

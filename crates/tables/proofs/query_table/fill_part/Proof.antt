@@ -1,7 +1,7 @@
 -- `fill_part` goes up from entry 0 with the digits of its number: after i turns the first i entries are right.
 use mathlib.Core.Path.{_≡_, refl, sym, _∙_, ap, ap₂, subst}
 use mathlib.Core.List.{List, _++_, append-nil}
-use Prim.Native.Nat.{ℕ, suc, _+_, _-_, _^_, _<_, _≤_}
+use Prim.Native.Nat.{ℕ, _+_, _-_, _^_, _<_, _≤_}
 use native.Mathlib.Numerals.{add-one}
 use native.Mathlib.Omega.{arith}
 use borrow.Author.Needs.{needs}
@@ -11,9 +11,9 @@ use lib.ListN.{length, take, drop, set, length-set, drop-of-length-le}
 use lib.Seq.{take-all}
 use lib.Signed.{nonNeg}
 use mir.Syntax.{w32, w64}
-use mir.Val.{SFits, toZ, ofZ}
+use mir.Val.{SFits, toZ}
 use mir.Facts.{toZ-ofZ}
-use Rattle.integers.specs.Laws.Sizes.{fits-mag, fits-abs}
+use Rattle.integers.specs.Laws.Sizes.{fits-mag}
 use Rattle.integers.specs.Vectors.{dot, Sized}
 use Rattle.layers.specs.Digits.{IsLayer, digitsOf}
 use Rattle.layers.specs.E8.{layerPoint8}

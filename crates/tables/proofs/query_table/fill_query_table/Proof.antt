@@ -21,7 +21,7 @@ use Rattle.refusals.specs.declared.Verdict.the-variants.{Accepted}
 use Rattle.refusals.specs.Answers.{valued, written}
 use Rattle.refusals.specs.Limits.{blocksMost}
 use Rattle.refusals.specs.Verdicts.{firstRefusal}
-use Rattle.tables.specs.Filling.{queryTableAsked, checkQueryTable}
+use Rattle.tables.specs.Filling.{checkQueryTable}
 use Rattle.tables.specs.Laws.Filling.{query-table-is, QueryTableTaken, query-table-taken, asked-framed, filled-refused, filled-accepted}
 use Rattle.tables.specs.Tables.{partSize, queryTable}
 use Rattle.tables.proofs.query_table.fill_query_table.Statement.{statement}

@@ -1,7 +1,7 @@
 -- `fill_units` fills as many parts as X has blocks, and answers how many entries these are.
 use borrow.Author.Needs.{needs}
 use mathlib.Core.Path.{_≡_, sym, _∙_, ap, subst}
-use mathlib.Core.List.{List, _++_, map}
+use mathlib.Core.List.{List, _++_}
 use Prim.Native.Nat.{ℕ, _*_, _/_, _^_, _≤_}
 use native.Mathlib.Nat.{mul-le-mul}
 use native.Mathlib.Omega.{arith}
@@ -11,14 +11,12 @@ use mir.Syntax.{w64}
 use mir.Val.{SFits}
 use mir.Facts.{toZ-ofZ}
 use Rattle.integers.specs.Vectors.{Sized}
-use Rattle.layers.specs.Digits.{joined}
 use Rattle.records.specs.Laws.Frames.{Whole, blocks-whole}
-use Rattle.records.specs.Vectors.{inBlocks}
 use Rattle.refusals.specs.declared.Verdict.the-variants.{Accepted}
 use Rattle.refusals.specs.Answers.{valued}
 use Rattle.refusals.specs.Limits.{blocksMost}
 use Rattle.tables.specs.Laws.Entries.{part-most, queryTable-long}
-use Rattle.tables.specs.Tables.{partSize, queryPart, queryTable}
+use Rattle.tables.specs.Tables.{partSize, queryTable}
 use Rattle.tables.proofs.query_table.fill_units.Statement.{statement}
 use Rattle.tables.proofs.query_table.fill_units.Tie as tie
 
