@@ -5,6 +5,8 @@ ghost use Rattle.decoding.specs.Decode.{decoded, decodedRoom};
 ghost use Rattle.encoding.specs.Encode.{encoded, encodedRoom};
 ghost use Rattle.records.specs.Vectors.{unitsHour, fvecsHour};
 ghost use Rattle.scores.specs.Scores.{pairScore, queryScore};
+ghost use Rattle.tables.specs.Filling.{pairFilled, pairTableRoom, queryFilled, queryTableRoom};
+ghost use Rattle.tables.specs.Scoring.{pairScoreBy, queryScoreBy};
 ghost use Rattle.unit.specs.Answers.{settings, answerOut};
 use crate::answers;
 use crate::answers::EkAnswer;
@@ -73,4 +75,66 @@ pub extern "C" fn ek_query_score(
     ensures { λ r. ⌜ r ≡ answerOut (queryScore (settings s) (now (steps .entry)) (fvecsHour (now (query .entry))) (now (code .entry))) ⌝ }
 {
     answers::answer_out(scores::query::query_score(answers::settings_in(s), steps, query, code))
+}
+
+// Fills the pair table, 65,536 entries.
+#[no_mangle]
+pub extern "C" fn ek_fill_pair_table(s: EkSettings, table: &mut [i8]) -> EkAnswer
+    ensures answer { λ r. ⌜ r ≡ answerOut (pairFilled (settings s) (length (now (table .entry)))) ⌝ }
+    ensures room { λ _. ⌜ now (table .exit) ≡ pairTableRoom (settings s) (now (table .entry)) ⌝ }
+{
+    answers::answer_out(tables::pair_table::fill_pair_table(answers::settings_in(s), table))
+}
+
+// Fills the query table of an fvecs record, K·q^8 entries.
+#[no_mangle]
+pub extern "C" fn ek_fill_query_table(s: EkSettings, query: &[u8], table: &mut [i32]) -> EkAnswer
+    ensures answer { λ r. ⌜ r ≡ answerOut (queryFilled (settings s) (fvecsHour (now (query .entry))) (length (now (table .entry)))) ⌝ }
+    ensures room { λ _. ⌜ now (table .exit) ≡ queryTableRoom (settings s) (fvecsHour (now (query .entry))) (now (table .entry)) ⌝ }
+{
+    answers::answer_out(tables::query_table::fill_query_table(
+        answers::settings_in(s),
+        query,
+        table,
+    ))
+}
+
+// The pair score by a lent table.
+#[no_mangle]
+pub extern "C" fn ek_pair_score_by_table(
+    s: EkSettings,
+    steps0: &[i32],
+    record0: &[u8],
+    steps1: &[i32],
+    record1: &[u8],
+    table: &[i8],
+) -> EkAnswer
+    ensures { λ r. ⌜ r ≡ answerOut (pairScoreBy (settings s) (now (steps0 .entry)) (now (record0 .entry)) (now (steps1 .entry)) (now (record1 .entry)) (now (table .entry))) ⌝ }
+{
+    answers::answer_out(tables::pair_score::pair_score_by_table(
+        answers::settings_in(s),
+        steps0,
+        record0,
+        steps1,
+        record1,
+        table,
+    ))
+}
+
+// The query score by a lent table.
+#[no_mangle]
+pub extern "C" fn ek_query_score_by_table(
+    s: EkSettings,
+    steps: &[i32],
+    code: &[u8],
+    table: &[i32],
+) -> EkAnswer
+    ensures { λ r. ⌜ r ≡ answerOut (queryScoreBy (settings s) (now (steps .entry)) (now (code .entry)) (now (table .entry))) ⌝ }
+{
+    answers::answer_out(tables::query_score::query_score_by_table(
+        answers::settings_in(s),
+        steps,
+        code,
+        table,
+    ))
 }
