@@ -18,5 +18,7 @@ pub mod Mending
 pub mod Places
 pub mod Reciprocals
 pub mod Keys
+pub mod Lowered
+pub mod Scans
 pub mod Mended
 pub mod Choice

@@ -5,4 +5,5 @@ pub mod Computed
 pub mod Answers
 pub mod Basis
 pub mod Rounding
+pub mod Pass
 pub mod Laws

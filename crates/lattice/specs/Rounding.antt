@@ -1,8 +1,8 @@
 -- How the code finds the nearest point of D_n: round each entry, and change one where the sum is odd. No promise to a user cites these.
 use mathlib.Core.Path.{_≡_}
 use mathlib.Core.Logic.{_⊎_}
-use mathlib.Core.Bool.{Bool, true, false, cond}
-use mathlib.Core.List.{List, [], _∷_, map}
+use mathlib.Core.Bool.{cond}
+use mathlib.Core.List.{List, map}
 use Prim.Native.Nat.{ℕ, _+_, _*_, _-_, _/_, _%_, _<_, _≤_}
 use lib.Dec.{ltb}
 use lib.IntN.{ℤ, pos, negsuc, natAbs, _+ℤ_, _-ℤ_, _*ℤ_}
@@ -10,6 +10,7 @@ use lib.ListN.{set}
 use lib.Signed.{_≤ℤ_, _<ℤ_, leZ, ltZ}
 use Rattle.integers.specs.Floor.{floorDiv}
 use Rattle.integers.specs.Vectors.{«at»}
+use Rattle.lattice.specs.declared.coordinate.Rounded.{Rounded}
 
 -- the whole number nearest to x / S, the lower of two as near
 unfoldable pub round : ℤ → ℤ → ℤ
@@ -19,15 +20,17 @@ round S x = floorDiv (pos 2 *ℤ x +ℤ S -ℤ pos 1) (2 * natAbs S)
 abbrev pub left : ℤ → ℤ → ℤ
 left S x = x -ℤ S *ℤ round S x
 
--- the next nearest: a step from there toward x, down where nothing is left
-unfoldable pub turn : ℤ → ℤ → ℤ
-turn S x = round S x +ℤ cond (ltZ (pos 0) (left S x)) (pos 1) (negsuc 0)
+-- both
+abbrev pub rounded : ℤ → ℤ → Rounded
+rounded S x = record { whole = round S x; rest = left S x }
 
--- what is left of v after S times f, entry by entry
-abbrev pub rests : ℤ → List ℤ → List ℤ → List ℤ
-rests S [] f = []
-rests S (x ∷ v) [] = []
-rests S (x ∷ v) (y ∷ f) = (x -ℤ S *ℤ y) ∷ rests S v f
+-- the step from the rounding toward the input where x is left, down where nothing is
+abbrev pub sign : ℤ → ℤ
+sign x = cond (ltZ (pos 0) x) (pos 1) (negsuc 0)
+
+-- the next nearest
+unfoldable pub turn : ℤ → ℤ → ℤ
+turn S x = round S x +ℤ sign (left S x)
 
 -- v rounded, with the change at the place j
 abbrev pub changed : ℤ → List ℤ → ℕ → List ℤ
@@ -45,28 +48,14 @@ pub record Divisor (s : ℤ) : Type 0 where
   pub least : pos 1 ≤ℤ s
   pub most : natAbs s ≤ 16384
 
--- 2^32 over 2s, rounded down
+-- 2^31 over s, rounded down
 abbrev pub reciprocal : ℤ → ℕ
-reciprocal s = 4294967296 / (2 * natAbs s)
+reciprocal s = 2147483648 / natAbs s
 
 -- a number whose order is the order of `Place`, for the first eight entries: what is left x at the entry i
 abbrev pub key : ℕ → ℤ → ℕ
-key i x = cond (leZ x (pos 0)) (natAbs x * 16 + (15 - i)) (natAbs x * 16 + i)
+key i x = cond (leZ x (pos 0)) (natAbs x * 128 + (15 - i)) (natAbs x * 128 + i)
 
 -- the entry that a key is of
 abbrev pub spot : ℕ → ℕ
 spot k = cond (ltb (k % 16) 8) (k % 16) (15 - k % 16)
-
--- r is the greater of a and b
-pub record Greater (a b r : ℕ) : Type 0 where
-  pub first : a ≤ r
-  pub second : b ≤ r
-  pub one : (r ≡ a) ⊎ (r ≡ b)
-
--- true where s is, else u where t is, else false
-abbrev pub inTurn : Bool → Bool → Bool → Bool
-inTurn s t u = elim s [ true ↦ true | false ↦ elim t [ true ↦ u | false ↦ false ] ]
-
--- whether an even point of cost a, its first half-entry x, comes before an odd one of cost b, its first half-entry y
-abbrev pub ahead : ℤ → ℤ → ℤ → ℤ → Bool
-ahead a b x y = inTurn (ltZ a b) (leZ a b) (leZ x y)

@@ -1,38 +1,91 @@
-// One half of the lattice: the nearest whole vector of even sum to v / 2s.
+// Both halves of the lattice from one rounding: what one pass over it sees, and how a half is mended by that.
 ghost use mathlib.Core.Path.{_≡_};
 ghost use mathlib.Core.List.{map};
-ghost use Prim.Native.Nat.{_+_, _^_};
+ghost use Prim.Native.Nat.{_^_, _≤_, _<_};
 ghost use lib.Dec.{eqb};
-ghost use lib.IntN.{pos, _*ℤ_};
+ghost use lib.IntN.{pos, natAbs, _*ℤ_};
 ghost use lib.ListN.{length};
-ghost use Rattle.integers.specs.Vectors.{«at», sumV, Sized};
+ghost use Rattle.integers.specs.Vectors.{sumV, Sized};
 ghost use Rattle.lattice.specs.Doubled.{par};
-ghost use Rattle.lattice.specs.Computed.{nearestD};
-ghost use Rattle.lattice.specs.Rounding.{Divisor, reciprocal, round, left, rests, Place};
+ghost use Rattle.lattice.specs.Rounding.{Divisor, reciprocal, round, left};
+ghost use Rattle.lattice.specs.Pass.{seen, scanned, mended};
 use crate::coordinate;
 
-// Every coordinate rounded, into f.
-fn rounds(v: &[i64; 8], s: i64, w: i64, f: &mut [i64; 8])
-    requires { ⌜ Divisor s × Sized 8 (2 ^ 30 + 2 ^ 14) (now v) × (w ≡ pos (reciprocal s)) × (length (now f) ≡ 8) ⌝ }
-    ensures { λ _. ⌜ now (f .exit) ≡ map (round (pos 2 *ℤ s)) (now (v .entry)) ⌝ }
+// What one pass sees: the greatest and the least key, the sum of all keys, and that of all roundings.
+pub(crate) struct Scan {
+    pub most: usize,
+    pub least: usize,
+    pub keys: usize,
+    pub sum: i64,
+}
+
+// How a half is mended: a step at a place, 0 where nothing is to be mended, and what it adds to the cost, in units of 4s.
+pub(crate) struct Mend {
+    pub place: usize,
+    pub step: i64,
+    pub cost: i64,
+}
+
+// Every coordinate rounded into f; what that leaves into a.
+pub(crate) fn rounds(d: &[i64; 8], s: i64, w: i64, f: &mut [i64; 8], a: &mut [i64; 8])
+    requires { ⌜ Divisor s × Sized 8 (2 ^ 30) (now d) × (w ≡ pos (reciprocal s)) × (length (now f) ≡ 8) × (length (now a) ≡ 8) ⌝ }
+    ensures { λ _. ⌜ (now (f .exit) ≡ map (round (pos 2 *ℤ s)) (now (d .entry))) × (now (a .exit) ≡ map (left (pos 2 *ℤ s)) (now (d .entry))) ⌝ }
 {
     let mut i: usize = 0;
     while i < 8 {
-        f[i] = coordinate::round(v[i], s, w);
+        let r = coordinate::round(d[i], s, w);
+        let whole = r.whole;
+        f[i] = whole;
+        let rest = r.rest;
+        a[i] = rest;
         i = i + 1;
     }
 }
 
-// What the rounding leaves of every coordinate, into r.
-fn rests(v: &[i64; 8], f: &[i64; 8], s: i64, r: &mut [i64; 8])
-    requires { ⌜ Divisor s × Sized 8 (2 ^ 30 + 2 ^ 14) (now v) × (now f ≡ map (round (pos 2 *ℤ s)) (now v)) × (length (now r) ≡ 8) ⌝ }
-    ensures { λ _. ⌜ now (r .exit) ≡ map (left (pos 2 *ℤ s)) (now (v .entry)) ⌝ }
+// One entry more: the rounding f, which leaves a, at the place i.
+fn seen(c: Scan, f: i64, a: i64, i: usize) -> Scan
+    requires { ⌜ (c .keys ≤ 2 ^ 32) × (natAbs (c .sum) ≤ 2 ^ 40) × (natAbs f ≤ 2 ^ 32) × (natAbs a ≤ 2 ^ 14) × (i < 8) ⌝ }
+    ensures { λ r. ⌜ r ≡ seen c f a i ⌝ }
 {
-    let m = s + s;
+    let k = coordinate::key(a, i);
+    Scan {
+        most: coordinate::greater(c.most, k),
+        least: coordinate::smaller(c.least, k),
+        keys: c.keys + k,
+        sum: c.sum + f,
+    }
+}
+
+// The pass over all eight.
+pub(crate) fn scanned(f: &[i64; 8], a: &[i64; 8]) -> Scan
+    requires { ⌜ Sized 8 (2 ^ 32) (now f) × Sized 8 (2 ^ 14) (now a) ⌝ }
+    ensures { λ c. ⌜ c ≡ scanned 8 (now (f .entry)) (now (a .entry)) ⌝ }
+{
+    let k = coordinate::key(a[0], 0);
+    let mut c = Scan {
+        most: k,
+        least: k,
+        keys: 0,
+        sum: 0,
+    };
     let mut i: usize = 0;
     while i < 8 {
-        r[i] = v[i] - m * f[i];
+        c = seen(c, f[i], a[i], i);
         i = i + 1;
+    }
+    c
+}
+
+// The mend of a half whose greatest key is k, and whose sum is odd or not.
+pub(crate) fn mended(k: usize, odd: bool, s: i64) -> Mend
+    requires { ⌜ Divisor s × (k ≤ 2 ^ 32) ⌝ }
+    ensures { λ r. ⌜ r ≡ mended s k odd ⌝ }
+{
+    let way = coordinate::either(k % 16 < 8, 1, -1);
+    Mend {
+        place: coordinate::spot(k),
+        step: coordinate::either(odd, way, 0),
+        cost: coordinate::either(odd, s - (k / 128) as i64, 0),
     }
 }
 
@@ -53,32 +106,4 @@ pub(crate) fn odd(t: i64) -> bool
     ensures { λ r. ⌜ r ≡ eqb (par t) 1 ⌝ }
 {
     t % 2 != 0
-}
-
-// The place to mend: where the largest key stands.
-fn place(r: &[i64; 8]) -> usize
-    requires { ⌜ Sized 8 (2 ^ 14) (now r) ⌝ }
-    ensures { λ j. ⌜ Place 8 («at» (now (r .entry))) j ⌝ }
-{
-    let mut k = coordinate::key(r[0], 0);
-    let mut i: usize = 1;
-    while i < 8 {
-        k = coordinate::greater(k, coordinate::key(r[i], i));
-        i = i + 1;
-    }
-    coordinate::spot(k)
-}
-
-// Rounds every coordinate into f, and mends one where the sum is odd; r is what is left of v after 2s times f.
-pub(crate) fn nearest_d(v: &[i64; 8], s: i64, w: i64, f: &mut [i64; 8], r: &mut [i64; 8])
-    requires { ⌜ Divisor s × Sized 8 (2 ^ 30 + 2 ^ 14) (now v) × (w ≡ pos (reciprocal s)) × (length (now f) ≡ 8) × (length (now r) ≡ 8) ⌝ }
-    ensures { λ _. ⌜ (now (f .exit) ≡ nearestD (pos 2 *ℤ s) (now (v .entry))) × (now (r .exit) ≡ rests (pos 2 *ℤ s) (now (v .entry)) (now (f .exit))) × Sized 8 (2 ^ 32) (now (f .exit)) × Sized 8 (2 ^ 16) (now (r .exit)) ⌝ }
-{
-    rounds(v, s, w, f);
-    rests(v, f, s, r);
-    let j = place(r);
-    let x = r[j];
-    let t = coordinate::step(odd(sum(f)), x);
-    f[j] = f[j] + t;
-    r[j] = x - (s + s) * t;
 }

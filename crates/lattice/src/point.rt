@@ -1,75 +1,89 @@
 // The nearest point: the nearest of each half, and the closer of the two.
 ghost use mathlib.Core.Path.{_≡_};
 ghost use mathlib.Core.Bool.{cond};
-ghost use Prim.Native.Nat.{_^_};
-ghost use Rattle.integers.specs.Vectors.{dot, Sized};
-ghost use Rattle.lattice.specs.Computed.{lower, spread, nearestPoint};
-ghost use Rattle.lattice.specs.Rounding.{Divisor, ahead};
+ghost use Prim.Native.Nat.{_^_, _≤_};
+ghost use lib.IntN.{pos, natAbs};
+ghost use lib.Signed.{ltZ};
+ghost use Rattle.integers.specs.Vectors.{Sized};
+ghost use Rattle.lattice.specs.Computed.{nearestPoint};
+ghost use Rattle.lattice.specs.Rounding.{Divisor};
+ghost use Rattle.lattice.specs.Pass.{Ranged, Small, first, lead, chosen, spreadBy};
 use crate::coordinate;
 use crate::half;
+use crate::half::Mend;
+use crate::half::Scan;
 
-// The sum of eight squares.
-fn norm(r: &[i64; 8]) -> i64
-    requires { ⌜ Sized 8 (2 ^ 16) (now r) ⌝ }
-    ensures { λ t. ⌜ t ≡ dot (now (r .entry)) (now (r .entry)) ⌝ }
-{
-    let mut t: i64 = 0;
-    let mut i: usize = 0;
-    while i < 8 {
-        t = t + r[i] * r[i];
-        i = i + 1;
-    }
-    t
+// The half that is chosen, by its parity, and its mend.
+struct Choice {
+    parity: i64,
+    place: usize,
+    step: i64,
 }
 
-// Whether the even candidate, of which e is left, comes before the odd one: by the sums of squares, and on equality by the first entries x and y.
-fn closer(e: &[i64; 8], o: &[i64; 8], x: i64, y: i64) -> bool
-    requires { ⌜ Sized 8 (2 ^ 16) (now e) × Sized 8 (2 ^ 16) (now o) ⌝ }
-    ensures { λ r. ⌜ r ≡ ahead (dot (now (e .entry)) (now (e .entry))) (dot (now (o .entry)) (now (o .entry))) x y ⌝ }
+// The step at the first entry.
+fn first(m: Mend) -> i64
+    ensures { λ r. ⌜ r ≡ first m ⌝ }
 {
-    let a = norm(e);
-    let b = norm(o);
-    if a < b {
-        true
+    if m.place == 0 { m.step } else { 0 }
+}
+
+// Above 0 where the even half, mended by x, comes before the odd one, mended by y: by the costs, whose difference over 2s is z, and on equality by the first entries.
+fn lead(rests: i64, x: Mend, y: Mend, way: i64, s: i64) -> i64
+    requires { ⌜ Divisor s × (natAbs rests ≤ 2 ^ 32) × Small x × Small y × (natAbs way ≤ 1) ⌝ }
+    ensures { λ r. ⌜ r ≡ lead s rests x y way ⌝ }
+{
+    let z = rests - 4 * s + 2 * (x.cost - y.cost);
+    coordinate::either(2 * first(x) < way + 2 * first(y), 1, 0) - 2 * z
+}
+
+// 0 of a number above 0, else 1: by its sign and with no jump, since which half is closer cannot be foreseen.
+fn behind(v: i64) -> i64
+    requires { ⌜ natAbs v ≤ 2 ^ 62 ⌝ }
+    ensures { λ r. ⌜ r ≡ cond (ltZ (pos 0) v) (pos 0) (pos 1) ⌝ }
+{
+    0 - ((v - 1) >> 63)
+}
+
+// The choice, from what the pass has seen and the way of the first entry.
+fn chosen(c: Scan, way: i64, s: i64) -> Choice
+    requires { ⌜ Divisor s × Ranged s c × (natAbs way ≤ 1) ⌝ }
+    ensures { λ r. ⌜ r ≡ chosen s c way ⌝ }
+{
+    let x = half::mended(c.most, half::odd(c.sum), s);
+    let y = half::mended(
+        128 * s as usize + 15 - c.least,
+        half::odd(c.sum + c.keys as i64),
+        s,
+    );
+    let v = lead((c.keys / 128) as i64, x, y, way, s);
+    let parity = behind(v);
+    if v > 0 {
+        Choice {
+            parity,
+            place: x.place,
+            step: x.step,
+        }
     } else {
-        if a <= b { x <= y } else { false }
+        Choice {
+            parity,
+            place: y.place,
+            step: y.step,
+        }
     }
 }
 
-// d less s in every coordinate: the input of the odd half.
-fn lower(d: &[i64; 8], s: i64) -> [i64; 8]
-    requires { ⌜ Divisor s × Sized 8 (2 ^ 30) (now d) ⌝ }
-    ensures { λ r. ⌜ r ≡ lower s 1 (now (d .entry)) ⌝ }
+// The half of parity p, doubled and not yet mended: twice f, and in the odd half one more on the way to the input.
+fn spread(p: i64, f: &[i64; 8], a: &[i64; 8]) -> [i64; 8]
+    requires { ⌜ (natAbs p ≤ 1) × Sized 8 (2 ^ 32) (now f) × Sized 8 (2 ^ 14) (now a) ⌝ }
+    ensures { λ r. ⌜ r ≡ spreadBy p (now (f .entry)) (now (a .entry)) ⌝ }
 {
-    let mut r: [i64; 8] = [0; 8];
+    let mut e: [i64; 8] = [0; 8];
     let mut i: usize = 0;
     while i < 8 {
-        r[i] = d[i] - s;
+        e[i] = 2 * f[i] + p * coordinate::sign(a[i]);
         i = i + 1;
     }
-    r
-}
-
-// The first of two numbers, or the second. (A value and no jump: which half is closer cannot be foreseen.)
-fn either(first: bool, x: i64, y: i64) -> i64
-    ensures { λ r. ⌜ r ≡ cond first x y ⌝ }
-{
-    if first { x } else { y }
-}
-
-// The closer half, doubled: twice f where it is the even one, twice g plus 1 else.
-fn spread(even: bool, f: &[i64; 8], g: &[i64; 8]) -> [i64; 8]
-    requires { ⌜ Sized 8 (2 ^ 32) (now f) × Sized 8 (2 ^ 32) (now g) ⌝ }
-    ensures { λ r. ⌜ r ≡ cond even (spread 0 (now (f .entry))) (spread 1 (now (g .entry))) ⌝ }
-{
-    let p = either(even, 0, 1);
-    let mut r: [i64; 8] = [0; 8];
-    let mut i: usize = 0;
-    while i < 8 {
-        r[i] = 2 * either(even, f[i], g[i]) + p;
-        i = i + 1;
-    }
-    r
+    e
 }
 
 // The doubled point of E8 nearest to d / s, of equals the lexicographically smallest.
@@ -78,12 +92,12 @@ pub fn nearest_point(d: &[i64; 8], s: i64) -> [i64; 8]
     ensures { λ r. ⌜ r ≡ nearestPoint s (now (d .entry)) ⌝ }
 {
     let w = coordinate::reciprocal(s);
-    let l = lower(d, s);
     let mut f: [i64; 8] = [0; 8];
     let mut a: [i64; 8] = [0; 8];
-    half::nearest_d(d, s, w, &mut f, &mut a);
-    let mut g: [i64; 8] = [0; 8];
-    let mut b: [i64; 8] = [0; 8];
-    half::nearest_d(&l, s, w, &mut g, &mut b);
-    spread(closer(&a, &b, f[0], g[0]), &f, &g)
+    half::rounds(d, s, w, &mut f, &mut a);
+    let c = chosen(half::scanned(&f, &a), coordinate::sign(a[0]), s);
+    let mut e = spread(c.parity, &f, &a);
+    let j = c.place;
+    e[j] = e[j] + 2 * c.step;
+    e
 }

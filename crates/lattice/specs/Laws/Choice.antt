@@ -1,41 +1,62 @@
 -- Even half against odd half, in the terms of the code.
-use mathlib.Core.Path.{_≡_, refl, _∙_, ap, ap₂}
+use mathlib.Core.Path.{_≡_, refl, sym, _∙_, ap, ap₂}
 use mathlib.Core.Bool.{Bool, true, false, cond}
-use mathlib.Core.List.{List, [], _∷_}
-use Prim.Native.Nat.{_+_, _^_, _<_}
+use mathlib.Core.List.{List, [], _∷_, map}
+use Prim.Native.Nat.{ℕ, zero, suc, _+_, _*_, _-_, _/_, _%_, _^_, _<_, _≤_}
 use native.Mathlib.Omega.{arith}
-use lib.IntN.{ℤ, pos, _+ℤ_, _-ℤ_, _*ℤ_}
-use lib.ListN.{length, length-map}
-use lib.Signed.{_≤ℤ_, _<ℤ_, leZ, ltZ}
-use Rattle.integers.specs.Laws.Difference.{byD, ints, byD₂}
-use Rattle.integers.specs.Laws.Sizes.{abs-sub, abs-mul, leZ-true, leZ-false, ltZ-true, ltZ-false}
-use Rattle.integers.specs.Laws.Sums.{sized-map}
-use Rattle.integers.specs.Vectors.{«at», dot, Sized}
+use native.Mathlib.Nat.{zero-add, div-le-self}
+use borrow.Author.Tests.{le-leb}
+use lib.Dec.{T, eqb, ltb}
+use lib.IntN.{ℤ, pos, negsuc, natAbs, _+ℤ_, _-ℤ_, _*ℤ_}
+use lib.ListN.{length, set, length-map}
+use lib.Seq.{ext-getD, take-all}
+use lib.Signed.{_≤ℤ_, _<ℤ_, leZ, ltZ, shrZ, ≤ℤ-refl}
+use Rattle.integers.specs.Laws.Difference.{byD, ints, byD₂, byD₃}
+use Rattle.integers.specs.Laws.Loops.{range-at}
+use Rattle.integers.specs.Laws.Signed.{<ℤ-weak, slack<, slack>, trichotomy}
+use Rattle.integers.specs.Laws.Sizes.{abs-add, abs-sub, abs-mul, abs-mul-le, leZ-true, leZ-false, ltZ-true, ltZ-false, leZ-not, ltZ-not}
+use Rattle.integers.specs.Laws.Sums.{at-map}
+use Rattle.integers.specs.Vectors.{square, «at», sumV, Bounded}
+use Rattle.lattice.specs.declared.half.Mend.{Mend}
+use Rattle.lattice.specs.declared.half.Scan.{Scan}
+use Rattle.lattice.specs.declared.point.Choice.{Choice}
 use Rattle.lattice.specs.Computed.{lesser, nearestD, spread, lower, nearestHalf, nearestPoint}
 use Rattle.lattice.specs.Doubled.{par}
 use Rattle.lattice.specs.Laws.Dn.{nearestD-least}
 use Rattle.lattice.specs.Laws.Halves.{cost-spread, double-pos}
+use Rattle.lattice.specs.Laws.Keys.{top-place}
 use Rattle.lattice.specs.Laws.Least.{leV-heads}
-use Rattle.lattice.specs.Laws.Mended.{cost-rests}
+use Rattle.lattice.specs.Laws.Lowered.{cost-lower}
+use Rattle.lattice.specs.Laws.Mended.{mend-nearest, mend-cost, mend-first}
 use Rattle.lattice.specs.Laws.Parity.{parities}
+use Rattle.lattice.specs.Laws.Scans.{scan-sum, scan-top, scan-rests, twin-at, odd-top, odd-parity}
 use Rattle.lattice.specs.Nearest.{cost}
-use Rattle.lattice.specs.Rounding.{rests, Divisor, inTurn, ahead}
+use Rattle.lattice.specs.Pass.{Ranged, Small, scanned, mended, first, lead, evenMend, oddMend, chosen, choose, spreadBy}
+use Rattle.lattice.specs.Rounding.{round, left, sign, Divisor}
+
+-- ---- two tests are one where they cannot differ
+
+same-test : (b t : Bool) → (b ≡ true → t ≡ false → ⊥) → (b ≡ false → t ≡ true → ⊥) → b ≡ t
+same-test true true p q = refl
+same-test true false p q = absurd (p refl refl)
+same-test false true p q = absurd (q refl refl)
+same-test false false p q = refl
+
+-- true where s is, else u where t is, else false
+abbrev inTurn : Bool → Bool → Bool → Bool
+inTurn s t u = elim s [ true ↦ true | false ↦ elim t [ true ↦ u | false ↦ false ] ]
+
+-- ---- the nearest point, from the nearest of each half
 
 -- 2x against 2y + 1
 heads : (x y : ℤ) → ltZ (pos 2 *ℤ x +ℤ pos 0) (pos 2 *ℤ y +ℤ pos 1) ≡ leZ x y
-heads x y = go (ltZ (pos 2 *ℤ x +ℤ pos 0) (pos 2 *ℤ y +ℤ pos 1)) refl (leZ x y) refl
+heads x y = same-test _ _ (λ p q. no-1 x y (ltZ-true _ _ p) (leZ-false x y q)) (λ p q. no-2 x y (ltZ-false _ _ p) (leZ-true x y q))
   where
     no-1 : (x y : ℤ) → (pos 2 *ℤ x +ℤ pos 0) <ℤ (pos 2 *ℤ y +ℤ pos 1) → y <ℤ x → ⊥
     no-1 = byD₂ _ λ _ _ _ _. simp ints (omega arith)
 
     no-2 : (x y : ℤ) → (pos 2 *ℤ y +ℤ pos 1) ≤ℤ (pos 2 *ℤ x +ℤ pos 0) → x ≤ℤ y → ⊥
     no-2 = byD₂ _ λ _ _ _ _. simp ints (omega arith)
-
-    go : (b : Bool) → ltZ (pos 2 *ℤ x +ℤ pos 0) (pos 2 *ℤ y +ℤ pos 1) ≡ b → (t : Bool) → leZ x y ≡ t → b ≡ t
-    go true p true q = refl
-    go true p false q = absurd (no-1 x y (ltZ-true _ _ p) (leZ-false x y q))
-    go false p true q = absurd (no-2 x y (ltZ-false _ _ p) (leZ-true x y q))
-    go false p false q = refl
 
 even : (x : ℤ) → par (pos 2 *ℤ x +ℤ pos 0) ≡ 0
 even = byD _ λ _ _. simp parities (omega arith)
@@ -48,6 +69,10 @@ lesser-heads : (c : List ℤ → ℤ) (x y : ℤ) (f g : List ℤ) → par x ≡
     → lesser c (x ∷ f) (y ∷ g) ≡ cond (inTurn (ltZ (c (x ∷ f)) (c (y ∷ g))) (leZ (c (x ∷ f)) (c (y ∷ g))) (ltZ x y)) (x ∷ f) (y ∷ g)
 unfolding lesser
 lesser-heads c x y f g p q = ap (λ (b : Bool). cond b (x ∷ f) (y ∷ g)) (leV-heads (c (x ∷ f)) (c (y ∷ g)) x y f g (λ e. omega (arith, p, q, ap par e)))
+
+-- whether an even point of cost a, its first half-entry x, comes before an odd one of cost b, its first half-entry y
+abbrev ahead : ℤ → ℤ → ℤ → ℤ → Bool
+ahead a b x y = inTurn (ltZ a b) (leZ a b) (leZ x y)
 
 lesser-two : (c : List ℤ → ℤ) (e o : List ℤ) → 0 < length e → 0 < length o
     → lesser c (spread 0 e) (spread 1 o) ≡ cond (ahead (c (spread 0 e)) (c (spread 1 o)) («at» e 0) («at» o 0)) (spread 0 e) (spread 1 o)
@@ -64,21 +89,244 @@ lower-none s [] = refl
 lower-none s (x ∷ d) = ap₂ _∷_ (same s x) (lower-none s d)
 
 module _ (s : ℤ) (s> : pos 0 <ℤ s) (d : List ℤ) (long : length d ≡ 8) where
+  long-nearest : (v : List ℤ) → length v ≡ 8 → 0 < length (nearestD (pos 2 *ℤ s) v)
+  long-nearest v h = omega (arith, nearestD-least (pos 2 *ℤ s) (double-pos s s>) v .member .long)
+
+  nearest-halves : let S = pos 2 *ℤ s in let e = nearestD S d in let o = nearestD S (lower s 1 d) in
+      nearestPoint s d ≡ cond (ahead (cost S d e) (cost S (lower s 1 d) o) («at» e 0) («at» o 0)) (spread 0 e) (spread 1 o)
+  unfolding nearestPoint nearestHalf
+  nearest-halves = let S : ℤ = pos 2 *ℤ s in let e = nearestD S d in let o = nearestD S (lower s 1 d) in
+      ap (λ (v : List ℤ). lesser (cost s d) (spread 0 (nearestD S v)) (spread 1 o)) (lower-none s d)
+      ∙ lesser-two (cost s d) e o (long-nearest d long) (long-nearest (lower s 1 d) (length-map d _ ∙ long))
+      ∙ ap₂ (λ (a b : ℤ). cond (ahead a b («at» e 0) («at» o 0)) (spread 0 e) (spread 1 o)) (cost-spread 0 s d e ∙ ap (λ (v : List ℤ). cost S v e) (lower-none s d)) (cost-spread 1 s d o)
+
+-- ---- the comparison by one number
+
+-- the difference of the costs, from what the mends add to those of the roundings
+costs-apart : (s A B R X Y : ℤ) → B +ℤ pos 2 *ℤ s *ℤ R ≡ A +ℤ pos 8 *ℤ square s
+    → (A +ℤ pos 2 *ℤ (pos 2 *ℤ s) *ℤ X) -ℤ (B +ℤ pos 2 *ℤ (pos 2 *ℤ s) *ℤ Y) ≡ pos 2 *ℤ s *ℤ (R -ℤ pos 4 *ℤ s +ℤ pos 2 *ℤ (X -ℤ Y))
+costs-apart = byD₃ _ λ _ _ _ _ _ _. byD₃ _ λ _ _ _ _ _ _. simp ints (omega arith)
+
+-- it has the sign of z
+less : (S : ℤ) → pos 0 <ℤ S → (z : ℤ) → z ≤ℤ negsuc 0 → (a b : ℤ) → a -ℤ b ≡ S *ℤ z → a <ℤ b
+less = slack< _ (pos 0) λ n. slack> _ (negsuc 0) λ m. byD₂ _ λ _ _ _ _. simp ints (omega arith)
+
+equal : (S a b : ℤ) → a -ℤ b ≡ S *ℤ pos 0 → a ≡ b
+equal = byD₃ _ λ _ _ _ _ _ _. simp ints (omega arith)
+
+more : (S : ℤ) → pos 0 <ℤ S → (z : ℤ) → pos 0 <ℤ z → (a b : ℤ) → a -ℤ b ≡ S *ℤ z → b <ℤ a
+more = slack< _ (pos 0) λ n. slack< _ (pos 0) λ m. byD₂ _ λ _ _ _ _. simp ints (omega arith)
+
+holds : (b : Bool) → T b → b ≡ true
+holds true h = refl
+holds false h = absurd h
+
+-- and decides before the test t does
+module _ (S a b z : ℤ) (t : Bool) (S> : pos 0 <ℤ S) (e : a -ℤ b ≡ S *ℤ z) where
+  decides : inTurn (ltZ a b) (leZ a b) t ≡ ltZ (pos 0) (cond t (pos 1) (pos 0) -ℤ pos 2 *ℤ z)
+  decides = trichotomy z (pos 0)
+      (λ l. ap (λ (u : Bool). inTurn u (leZ a b) t) (holds (ltZ a b) (less S S> z (under z l) a b e .lt)) ∙ sym (holds (ltZ (pos 0) (cond t (pos 1) (pos 0) -ℤ pos 2 *ℤ z)) (front t z l .lt)))
+      (λ q. let k : a ≡ b = equal S a b (rw q at e) in rw (k, q) (ap₂ (λ (u v : Bool). inTurn u v t) (ltZ-not b b true (holds (leZ b b) (≤ℤ-refl b .le))) (holds (leZ b b) (≤ℤ-refl b .le)) ∙ last t))
+      (λ l. let k : b <ℤ a = more S S> z l a b e in
+      ap₂ (λ (u v : Bool). inTurn u v t) (ltZ-not a b true (holds (leZ b a) (<ℤ-weak b a k .le))) (leZ-not a b true (holds (ltZ b a) (k .lt)))
+      ∙ sym (ltZ-not (pos 0) (cond t (pos 1) (pos 0) -ℤ pos 2 *ℤ z) true (holds (leZ (cond t (pos 1) (pos 0) -ℤ pos 2 *ℤ z) (pos 0)) (back t z l .le))))
+    where
+      under : (z : ℤ) → z <ℤ pos 0 → z ≤ℤ negsuc 0
+      under = byD _ λ _ _. simp ints (omega arith)
+
+      front : (t : Bool) (z : ℤ) → z <ℤ pos 0 → pos 0 <ℤ (cond t (pos 1) (pos 0) -ℤ pos 2 *ℤ z)
+      front true = byD _ λ _ _. simp ints (omega arith)
+      front false = byD _ λ _ _. simp ints (omega arith)
+
+      back : (t : Bool) (z : ℤ) → pos 0 <ℤ z → (cond t (pos 1) (pos 0) -ℤ pos 2 *ℤ z) ≤ℤ pos 0
+      back true = byD _ λ _ _. simp ints (omega arith)
+      back false = byD _ λ _ _. simp ints (omega arith)
+
+      last : (t : Bool) → t ≡ ltZ (pos 0) (cond t (pos 1) (pos 0) -ℤ pos 2 *ℤ pos 0)
+      last true = refl
+      last false = refl
+
+-- the parity of the half by the sign alone, as a shift reads it
+pub sign-shift : (v : ℤ) → natAbs v ≤ 2 ^ 62 → pos 0 -ℤ shrZ (v -ℤ pos 1) (2 ^ 63) ≡ cond (ltZ (pos 0) v) (pos 0) (pos 1)
+sign-shift v h = ap (λ (z : ℤ). pos 0 -ℤ z) (go (v -ℤ pos 1) (omega (arith, abs-sub v (pos 1)))) ∙ flip (leZ (pos 0) (v -ℤ pos 1))
+    ∙ ap (λ (b : Bool). cond b (pos 0) (pos 1)) (same-test _ _ (λ p q. no-1 v (leZ-true _ _ p) (ltZ-false _ _ q)) (λ p q. no-2 v (leZ-false _ _ p) (ltZ-true _ _ q)))
+  where
+    go : (z : ℤ) → natAbs z ≤ 2 ^ 62 + 1 → shrZ z (2 ^ 63) ≡ cond (leZ (pos 0) z) (pos 0) (negsuc 0)
+    go (pos n) l = let e : n / 2 ^ 63 ≡ 0 = omega arith in ap pos e ∙ sym (ap (λ (b : Bool). cond b (pos 0) (negsuc 0)) (le-leb 0 n (omega arith)))
+    go (negsuc n) l = let e : n / 2 ^ 63 ≡ 0 = omega arith in ap negsuc e
+
+    flip : (b : Bool) → pos 0 -ℤ cond b (pos 0) (negsuc 0) ≡ cond b (pos 0) (pos 1)
+    flip true = refl
+    flip false = refl
+
+    no-1 : (v : ℤ) → pos 0 ≤ℤ (v -ℤ pos 1) → v ≤ℤ pos 0 → ⊥
+    no-1 = byD _ λ _ _. simp ints (omega arith)
+
+    no-2 : (v : ℤ) → (v -ℤ pos 1) <ℤ pos 0 → pos 0 <ℤ v → ⊥
+    no-2 = byD _ λ _ _. simp ints (omega arith)
+
+pub parity-small : (b : Bool) → natAbs (cond b (pos 0) (pos 1)) ≤ 1
+parity-small true = omega arith
+parity-small false = omega arith
+
+pub bit-small : (b : Bool) → natAbs (cond b (pos 1) (pos 0)) ≤ 1
+bit-small true = omega arith
+bit-small false = omega arith
+
+-- the first entries f and g, mended by p and q, where w leads from 2f to 2g + 1
+first-test : (f g w p q : ℤ) → pos 2 *ℤ f +ℤ pos 1 *ℤ w ≡ pos 2 *ℤ g +ℤ pos 1 → leZ (f +ℤ p) (g +ℤ q) ≡ ltZ (pos 2 *ℤ p) (w +ℤ pos 2 *ℤ q)
+first-test f g w p q e = same-test _ _ (λ u v. no-1 f g w p q e (leZ-true _ _ u) (ltZ-false _ _ v)) (λ u v. no-2 f g w p q e (leZ-false _ _ u) (ltZ-true _ _ v))
+  where
+    no-1 : (f g w p q : ℤ) → pos 2 *ℤ f +ℤ pos 1 *ℤ w ≡ pos 2 *ℤ g +ℤ pos 1 → (f +ℤ p) ≤ℤ (g +ℤ q) → (w +ℤ pos 2 *ℤ q) ≤ℤ (pos 2 *ℤ p) → ⊥
+    no-1 = byD₃ _ λ _ _ _ _ _ _. byD₂ _ λ _ _ _ _. simp ints (omega arith)
+
+    no-2 : (f g w p q : ℤ) → pos 2 *ℤ f +ℤ pos 1 *ℤ w ≡ pos 2 *ℤ g +ℤ pos 1 → (g +ℤ q) <ℤ (f +ℤ p) → (pos 2 *ℤ p) <ℤ (w +ℤ pos 2 *ℤ q) → ⊥
+    no-2 = byD₃ _ λ _ _ _ _ _ _. byD₂ _ λ _ _ _ _. simp ints (omega arith)
+
+-- ---- how large the numbers of the comparison are
+
+way-small : (b : Bool) → natAbs (cond b (pos 1) (negsuc 0)) ≤ 1
+way-small true = omega arith
+way-small false = omega arith
+
+pub sign-small : (x : ℤ) → natAbs (sign x) ≤ 1
+sign-small x = way-small (ltZ (pos 0) x)
+
+pub mended-small : (s : ℤ) → Divisor s → (k : ℕ) → k ≤ 2 ^ 32 → (b : Bool) → Small (mended s k b)
+unfolding mended
+mended-small s h k l true = record { step = way-small (ltb (k % 16) 8); cost = omega (arith, abs-sub s (pos (k / 128)), h .most, div-le-self k 128) }
+mended-small s h k l false = record { step = omega arith; cost = omega arith }
+
+pub first-small : (m : Mend) → Small m → natAbs (first m) ≤ 1
+first-small m h = go (eqb (m .place) 0)
+  where
+    go : (b : Bool) → natAbs (cond b (m .step) (pos 0)) ≤ 1
+    go true = h .step
+    go false = omega arith
+
+module _ (s R : ℤ) (x y : Mend) (h : Divisor s) (r : natAbs R ≤ 2 ^ 32) (k : Small x) (l : Small y) where
+  pub four-small : natAbs (pos 4 *ℤ s) ≤ 2 ^ 16
+  four-small = omega (arith, abs-mul (pos 4) s, h .most)
+
+  pub costs-small : natAbs (x .cost -ℤ y .cost) ≤ 2 ^ 41
+  costs-small = omega (arith, abs-sub (x .cost) (y .cost), k .cost, l .cost)
+
+  pub apart-small : natAbs (R -ℤ pos 4 *ℤ s +ℤ pos 2 *ℤ (x .cost -ℤ y .cost)) ≤ 2 ^ 43
+  apart-small = omega (arith, abs-add (R -ℤ pos 4 *ℤ s) (pos 2 *ℤ (x .cost -ℤ y .cost)), abs-sub R (pos 4 *ℤ s), four-small, abs-mul (pos 2) (x .cost -ℤ y .cost), costs-small)
+
+  pub lead-small : (w : ℤ) → natAbs (lead s R x y w) ≤ 2 ^ 62
+  unfolding lead
+  lead-small w = let z : ℤ = R -ℤ pos 4 *ℤ s +ℤ pos 2 *ℤ (x .cost -ℤ y .cost) in let b : Bool = ltZ (pos 2 *ℤ first x) (w +ℤ pos 2 *ℤ first y) in
+      omega (arith, abs-sub (cond b (pos 1) (pos 0)) (pos 2 *ℤ z), abs-mul (pos 2) z, apart-small, bit-small b)
+
+-- ---- the doubled entries
+
+spread-step : (p : ℕ) (x t : ℤ) → pos 2 *ℤ x +ℤ pos p +ℤ pos 2 *ℤ t ≡ pos 2 *ℤ (x +ℤ t) +ℤ pos p
+spread-step p = byD₂ _ λ _ _ _ _. simp ints (omega arith)
+
+-- a step is doubled too
+spread-set : (p : ℕ) (f : List ℤ) (j : ℕ) (t : ℤ) → j < length f → set (spread p f) j («at» (spread p f) j +ℤ pos 2 *ℤ t) ≡ spread p (set f j («at» f j +ℤ t))
+spread-set p [] j t h = absurd (omega arith)
+spread-set p (x ∷ f) zero t h = ap (λ (z : ℤ). z ∷ spread p f) (spread-step p x t)
+spread-set p (x ∷ f) (suc j) t h = ap (λ (l : List ℤ). (pos 2 *ℤ x +ℤ pos p) ∷ l) (spread-set p f j t (omega arith))
+
+no-step : (x w : ℤ) → pos 2 *ℤ x +ℤ pos 0 *ℤ w ≡ pos 2 *ℤ x +ℤ pos 0
+no-step = byD₂ _ λ _ _ _ _. simp ints (omega arith)
+
+-- the entries of a half before its mend, where they are so one by one
+spread-by : (p : ℤ) (n : ℕ) (f r g : List ℤ) → length g ≡ 8 → ((i : ℕ) → i < 8 → pos 2 *ℤ «at» f i +ℤ p *ℤ sign («at» r i) ≡ pos 2 *ℤ «at» g i +ℤ pos n) → spreadBy p f r ≡ spread n g
+spread-by p n f r g long e = ext-getD (pos 0) (spreadBy p f r) (spread n g) (sym (length-map g _ ∙ long))
+    (λ i h. range-at (λ (i : ℕ). pos 2 *ℤ «at» f i +ℤ p *ℤ sign («at» r i)) 0 8 i (pos 0) h ∙ rw (zero-add i) (e i h) ∙ sym (at-map (λ (y : ℤ). pos 2 *ℤ y +ℤ pos n) g i (omega arith)))
+
+pub spread-small : (p : ℤ) (f r : List ℤ) → natAbs p ≤ 1 → Bounded (2 ^ 32) f → (j : ℕ) → j < 8 → natAbs («at» (spreadBy p f r) j) ≤ 2 ^ 34
+spread-small p f r h k j l = let x : ℤ = «at» f j in let w : ℤ = sign («at» r j) in
+    rw (range-at (λ (i : ℕ). pos 2 *ℤ «at» f i +ℤ p *ℤ sign («at» r i)) 0 8 j (pos 0) l, zero-add j)
+    (omega (arith, abs-add (pos 2 *ℤ x) (p *ℤ w), abs-mul (pos 2) x, k j, abs-mul-le p w {m = 1} {n = 1} h (sign-small («at» r j))))
+
+-- ---- the choice of the code
+
+module _ (s : ℤ) (s> : pos 0 <ℤ s) (d : List ℤ) (long : length d ≡ 8) where
   abbrev S : ℤ
   S = pos 2 *ℤ s
 
-  long-nearest : (v : List ℤ) → length v ≡ 8 → 0 < length (nearestD S v)
-  long-nearest v h = omega (arith, nearestD-least S (double-pos s s>) v .member .long)
+  abbrev L : List ℤ
+  L = lower s 1 d
 
-  -- the nearest point, from the two halves, what they leave and the test t between them
-  pub nearestPoint-code : {f g a b : List ℤ} {t : Bool} → f ≡ nearestD S d → g ≡ nearestD S (lower s 1 d) → a ≡ rests S d f → b ≡ rests S (lower s 1 d) g
-      → t ≡ ahead (dot a a) (dot b b) («at» f 0) («at» g 0) → nearestPoint s d ≡ cond t (spread 0 f) (spread 1 g)
-  unfolding nearestPoint nearestHalf
-  nearestPoint-code p q α β τ = let e = nearestD S d in let o = nearestD S (lower s 1 d) in
-      rw (τ, α, β, p, q, ← cost-rests S d e, ← cost-rests S (lower s 1 d) o)
-      (ap (λ (v : List ℤ). lesser (cost s d) (spread 0 (nearestD S v)) (spread 1 o)) (lower-none s d)
-      ∙ lesser-two (cost s d) e o (long-nearest d long) (long-nearest (lower s 1 d) (length-map d _ ∙ long))
-      ∙ ap₂ (λ (a b : ℤ). cond (ahead a b («at» e 0) («at» o 0)) (spread 0 e) (spread 1 o)) (cost-spread 0 s d e ∙ ap (λ (v : List ℤ). cost S v e) (lower-none s d)) (cost-spread 1 s d o))
+  abbrev f : List ℤ
+  f = map (round S) d
 
-pub lower-sized : (s : ℤ) → Divisor s → (d : List ℤ) → Sized 8 (2 ^ 30) d → Sized 8 (2 ^ 30 + 2 ^ 14) (lower s 1 d)
-lower-sized s h d k = sized-map 8 _ d k (λ (x : ℤ). x -ℤ s *ℤ pos 1) (2 ^ 30 + 2 ^ 14) (λ x l. omega (arith, abs-sub x (s *ℤ pos 1), abs-mul s (pos 1), h .most))
+  abbrev a : List ℤ
+  a = map (left S) d
+
+  abbrev g : List ℤ
+  g = map (round S) L
+
+  long-L : length L ≡ 8
+  long-L = length-map d _ ∙ long
+
+  abbrev c : Scan
+  c = scanned 8 f a
+
+  abbrev x : Mend
+  x = mended s (c .most) (eqb (par (sumV f)) 1)
+
+  abbrev y : Mend
+  y = mended s (128 * natAbs s + 15 - c .least) (eqb (par (sumV g)) 1)
+
+  x-is : evenMend s c ≡ x
+  x-is = ap (λ (z : ℤ). mended s (c .most) (eqb (par z) 1)) (scan-sum f a 8 ∙ ap sumV (take-all 8 f (omega (arith, length-map d (round S)))))
+
+  y-is : oddMend s c ≡ y
+  y-is = ap (λ (n : ℕ). mended s (128 * natAbs s + 15 - c .least) (eqb n 1)) (odd-parity s s> d long)
+
+  abbrev z : ℤ
+  z = pos (c .keys / 128) -ℤ pos 4 *ℤ s +ℤ pos 2 *ℤ (x .cost -ℤ y .cost)
+
+  costs : cost S d (nearestD S d) -ℤ cost S L (nearestD S L) ≡ S *ℤ z
+  costs = ap₂ _-ℤ_ (mend-cost s s> d long (c .most) (scan-top f a)) (mend-cost s s> L long-L (128 * natAbs s + 15 - c .least) (odd-top s s> d long))
+      ∙ costs-apart s (cost S d f) (cost S L g) (pos (c .keys / 128)) (x .cost) (y .cost)
+      (ap (λ (n : ℕ). cost S L g +ℤ S *ℤ pos n) (scan-rests f a (length-map d (left S) ∙ long)) ∙ cost-lower s s> d ∙ ap (λ (n : ℕ). cost S d f +ℤ pos n *ℤ square s) long)
+
+  firsts : leZ («at» (nearestD S d) 0) («at» (nearestD S L) 0) ≡ ltZ (pos 2 *ℤ first x) (sign («at» a 0) +ℤ pos 2 *ℤ first y)
+  firsts = ap₂ leZ (mend-first s s> d long (c .most) (scan-top f a)) (mend-first s s> L long-L (128 * natAbs s + 15 - c .least) (odd-top s s> d long))
+      ∙ first-test («at» f 0) («at» g 0) (sign («at» a 0)) (first x) (first y) (twin-at s s> d long 0 (omega arith) .doubled)
+
+  abbrev t : Bool
+  t = ltZ (pos 0) (lead s (pos (c .keys / 128)) x y (sign («at» a 0)))
+
+  chosen-is : chosen s c (sign («at» a 0)) ≡ choose t x y
+  unfolding chosen
+  chosen-is = ap₂ (λ (x y : Mend). choose (ltZ (pos 0) (lead s (pos (c .keys / 128)) x y (sign («at» a 0)))) x y) x-is y-is
+
+  nearest-is : nearestPoint s d ≡ cond t (spread 0 (nearestD S d)) (spread 1 (nearestD S L))
+  unfolding lead
+  nearest-is = nearest-halves s s> d long ∙ ap (λ (u : Bool). cond u (spread 0 (nearestD S d)) (spread 1 (nearestD S L)))
+      (decides S (cost S d (nearestD S d)) (cost S L (nearestD S L)) z (leZ («at» (nearestD S d) 0) («at» (nearestD S L) 0)) (double-pos s s>) costs
+      ∙ ap (λ (u : Bool). ltZ (pos 0) (cond u (pos 1) (pos 0) -ℤ pos 2 *ℤ z)) firsts)
+
+  -- the half of the choice, mended
+  abbrev made : Choice → List ℤ
+  made h = let e : List ℤ = spreadBy (h .parity) f a in set e (h .place) («at» e (h .place) +ℤ pos 2 *ℤ h .step)
+
+  place-small : (b : Bool) → choose b x y .place < 8
+  unfolding mended
+  place-small true = top-place (scan-top f a) .within
+  place-small false = top-place (odd-top s s> d long) .within
+
+  made-is : (b : Bool) → made (choose b x y) ≡ cond b (spread 0 (nearestD S d)) (spread 1 (nearestD S L))
+  made-is true = ap (λ (e : List ℤ). set e (x .place) («at» e (x .place) +ℤ pos 2 *ℤ x .step)) (spread-by (pos 0) 0 f a f (length-map d _ ∙ long) (λ i h. no-step («at» f i) (sign («at» a i))))
+      ∙ spread-set 0 f (x .place) (x .step) (omega (arith, place-small true, length-map d (round S))) ∙ ap (spread 0) (mend-nearest s s> d long (c .most) (scan-top f a))
+  made-is false = ap (λ (e : List ℤ). set e (y .place) («at» e (y .place) +ℤ pos 2 *ℤ y .step)) (spread-by (pos 1) 1 f a g (length-map L _ ∙ long-L) (λ i h. twin-at s s> d long i h .doubled))
+      ∙ spread-set 1 g (y .place) (y .step) (omega (arith, place-small false, length-map L (round S), long-L)) ∙ ap (spread 1) (mend-nearest s s> L long-L (128 * natAbs s + 15 - c .least) (odd-top s s> d long))
+
+  -- how large its numbers are
+  pub chosen-small : Divisor s → Ranged s c → let h = chosen s c (sign («at» a 0)) in (natAbs (h .parity) ≤ 1) × (h .place < 8) × (natAbs (h .step) ≤ 1)
+  chosen-small h k = rw chosen-is (go t)
+    where
+      go : (b : Bool) → (natAbs (choose b x y .parity) ≤ 1) × (choose b x y .place < 8) × (natAbs (choose b x y .step) ≤ 1)
+      go true = (omega arith, place-small true, mended-small s h (c .most) (k .most) (eqb (par (sumV f)) 1) .step)
+      go false = (omega arith, place-small false, mended-small s h (128 * natAbs s + 15 - c .least) (omega (arith, h .most)) (eqb (par (sumV g)) 1) .step)
+
+  -- it is the nearest point
+  pub nearestPoint-code : made (chosen s c (sign («at» a 0))) ≡ nearestPoint s d
+  nearestPoint-code = ap made chosen-is ∙ made-is t ∙ sym nearest-is

@@ -1,135 +1,114 @@
--- One half of the lattice as the code finds it: rounded, one entry mended where the sum is odd, and what that leaves.
-use mathlib.Core.Path.{_≡_, refl, _∙_, ap, ap₂, subst}
+-- One half of the lattice, mended by its largest key: it is the nearest whole vector of even sum, and what that costs.
+use mathlib.Core.Path.{_≡_, refl, sym, _∙_, ap, ap₂, subst}
 use mathlib.Core.Bool.{Bool, true, false, cond}
 use mathlib.Core.List.{List, [], _∷_, map}
-use Prim.Native.Nat.{ℕ, zero, suc, _+_, _^_, _<_, _≤_}
+use Prim.Native.Nat.{ℕ, zero, suc, _^_, _<_}
 use native.Mathlib.Omega.{arith}
 use native.Mathlib.Decide.{decLe}
-use borrow.Author.Tests.{eqb-true, eqb-false}
+use borrow.Author.Tests.{eqb-true, eqb-false, ne-eqb}
 use lib.Dec.{eqb}
-use lib.IntN.{ℤ, pos, negsuc, natAbs, _+ℤ_, _-ℤ_, _*ℤ_, +ℤ-idr}
-use lib.ListN.{set}
+use lib.IntN.{ℤ, pos, natAbs, _+ℤ_, _-ℤ_, _*ℤ_, +ℤ-idr}
+use lib.ListN.{length, set, length-map}
 use lib.Seq.{set-getD}
-use lib.Signed.{_<ℤ_, ltZ}
-use Rattle.integers.specs.Laws.Difference.{ints, byD₄}
-use Rattle.integers.specs.Laws.Sizes.{abs-add, abs-sub, abs-mul, abs-mul-le}
-use Rattle.integers.specs.Laws.Sums.{at-map, sized-map, sized-set}
-use Rattle.integers.specs.Vectors.{square, «at», sumV, dot, Sized, within, small}
+use lib.Signed.{_<ℤ_}
+use Rattle.integers.specs.Laws.Difference.{byD, ints, byD₂}
+use Rattle.integers.specs.Laws.Sums.{at-map, sized-map}
+use Rattle.integers.specs.Vectors.{«at», sumV, Sized}
 use Rattle.lattice.specs.Computed.{nearestD}
 use Rattle.lattice.specs.Doubled.{par}
 use Rattle.lattice.specs.Laws.Dn.{Summed, nearestD-least}
+use Rattle.lattice.specs.Laws.Halves.{double-pos}
+use Rattle.lattice.specs.Laws.Keys.{Top, top-reads, top-place}
 use Rattle.lattice.specs.Laws.Least.{Least, least-unique}
+use Rattle.lattice.specs.Laws.Mending.{changed-cost}
 use Rattle.lattice.specs.Laws.Places.{place-nearest, place-same}
-use Rattle.lattice.specs.Laws.Reciprocals.{twice-pos, left-small, round-small}
+use Rattle.lattice.specs.Laws.Reciprocals.{left-small, round-small}
 use Rattle.lattice.specs.Laws.Rounds.{rounds-least}
 use Rattle.lattice.specs.Nearest.{cost}
-use Rattle.lattice.specs.Rounding.{round, left, turn, rests, Place, Divisor}
-
--- ---- what is left of v after S times f
-
--- the cost is its sum of squares
-pub cost-rests : (S : ℤ) (v f : List ℤ) → cost S v f ≡ dot (rests S v f) (rests S v f)
-cost-rests S [] f = refl
-cost-rests S (x ∷ v) [] = refl
-cost-rests S (x ∷ v) (y ∷ f) = ap (λ (t : ℤ). square (x -ℤ S *ℤ y) +ℤ t) (cost-rests S v f)
-
-rests-rounds : (S : ℤ) (v : List ℤ) → rests S v (map (round S) v) ≡ map (left S) v
-rests-rounds S [] = refl
-rests-rounds S (x ∷ v) = ap (λ (r : List ℤ). left S x ∷ r) (rests-rounds S v)
-
--- a step t at one entry takes S t from what is left there
-rests-set : (S t : ℤ) (v f : List ℤ) (j : ℕ) → rests S v (set f j («at» f j +ℤ t)) ≡ set (rests S v f) j («at» (rests S v f) j -ℤ S *ℤ t)
-rests-set S t [] f j = refl
-rests-set S t (x ∷ v) [] j = refl
-rests-set S t (x ∷ v) (y ∷ f) zero = ap (λ (z : ℤ). z ∷ rests S v f) (go x S y t)
-  where
-    go : (x S y t : ℤ) → x -ℤ S *ℤ (y +ℤ t) ≡ x -ℤ S *ℤ y -ℤ S *ℤ t
-    go = byD₄ _ λ _ _ _ _ _ _ _ _. simp ints (omega arith)
-rests-set S t (x ∷ v) (y ∷ f) (suc j) = ap (λ (r : List ℤ). (x -ℤ S *ℤ y) ∷ r) (rests-set S t v f j)
+use Rattle.lattice.specs.Pass.{mended, first}
+use Rattle.lattice.specs.Rounding.{round, left, sign, turn, Divisor, spot}
 
 -- ---- the sizes of the entries
 
-module _ (s : ℤ) (h : Divisor s) (v : List ℤ) (k : Sized 8 (2 ^ 30 + 2 ^ 14) v) where
-  pub rounds-sized : Sized 8 (2 ^ 31) (map (round (pos 2 *ℤ s)) v)
-  rounds-sized = sized-map 8 _ v k (round (pos 2 *ℤ s)) (2 ^ 31) (λ x l. omega (arith, round-small s h x))
+module _ (s : ℤ) (h : Divisor s) (v : List ℤ) (k : Sized 8 (2 ^ 30) v) where
+  pub rounds-sized : Sized 8 (2 ^ 32) (map (round (pos 2 *ℤ s)) v)
+  rounds-sized = sized-map 8 _ v k (round (pos 2 *ℤ s)) (2 ^ 32) (λ x l. omega (arith, round-small s h x))
 
-  pub lefts-sized : Sized 8 (2 ^ 14) (map (left (pos 2 *ℤ s)) v)
-  lefts-sized = sized-map 8 _ v k (left (pos 2 *ℤ s)) (2 ^ 14) (λ x l. omega (arith, left-small s h x, h .most))
+  pub lefts-sized : Sized 8 (natAbs s) (map (left (pos 2 *ℤ s)) v)
+  lefts-sized = sized-map 8 _ v k (left (pos 2 *ℤ s)) (natAbs s) (λ x l. left-small s h x)
 
--- ---- the mended half
+-- ---- the mend
 
--- what the code has found: v rounded to f, what that leaves r, the place j to mend, and the step t there, 0 where the sum is even
-pub record Found (s : ℤ) (v f r : List ℤ) (j : ℕ) (t : ℤ) : Type 0 where
-  pub divisor : Divisor s
-  pub sized : Sized 8 (2 ^ 30 + 2 ^ 14) v
-  pub rounded : f ≡ map (round (pos 2 *ℤ s)) v
-  pub leaves : r ≡ map (left (pos 2 *ℤ s)) v
-  pub place : Place 8 («at» r) j
-  pub step : t ≡ cond (eqb (par (sumV f)) 1) (cond (ltZ (pos 0) («at» r j)) (pos 1) (negsuc 0)) (pos 0)
+-- what it adds to the cost
+mend-step : (n : ℕ) (s : ℤ) → pos 2 *ℤ s *ℤ (pos 2 *ℤ s) -ℤ pos 2 *ℤ (pos 2 *ℤ s) *ℤ pos n ≡ pos 2 *ℤ (pos 2 *ℤ s) *ℤ (s -ℤ pos n)
+mend-step n = byD _ λ _ _. simp ints (omega arith)
 
-module _ {s : ℤ} {v f r : List ℤ} {j : ℕ} {t : ℤ} (m : Found s v f r j t) where
+mend-none : (c S : ℤ) → c ≡ c +ℤ S *ℤ pos 0
+mend-none = byD₂ _ λ _ _ _ _. simp ints (omega arith)
+
+first-of : (f : List ℤ) (j : ℕ) (t : ℤ) → 0 < length f → «at» (set f j («at» f j +ℤ t)) 0 ≡ «at» f 0 +ℤ cond (eqb j 0) t (pos 0)
+first-of [] j t h = absurd (omega arith)
+first-of (x ∷ f) zero t h = refl
+first-of (x ∷ f) (suc j) t h = rw (ne-eqb (suc j) 0 (λ e. omega arith)) (sym (+ℤ-idr x))
+
+module _ (s : ℤ) (s> : pos 0 <ℤ s) (v : List ℤ) (long : length v ≡ 8) (k : ℕ) (top : Top (map (left (pos 2 *ℤ s)) v) k) where
   abbrev S : ℤ
   S = pos 2 *ℤ s
 
   S> : pos 0 <ℤ S
-  S> = twice-pos s (m .divisor .least) .1
+  S> = double-pos s s>
 
-  f-at : (i : ℕ) → i < 8 → «at» f i ≡ round S («at» v i)
-  f-at i h = ap (λ (g : List ℤ). «at» g i) (m .rounded) ∙ at-map (round S) v i (omega (arith, m .sized .long))
+  abbrev f : List ℤ
+  f = map (round S) v
 
-  r-at : (i : ℕ) → i < 8 → «at» r i ≡ left S («at» v i)
-  r-at i h = ap (λ (g : List ℤ). «at» g i) (m .leaves) ∙ at-map (left S) v i (omega (arith, m .sized .long))
+  abbrev j : ℕ
+  j = spot k
 
-  odd-nearest : par (sumV f) ≡ 1 → set f j («at» f j +ℤ cond (ltZ (pos 0) («at» r j)) (pos 1) (negsuc 0)) ≡ nearestD S v
-  unfolding turn
-  odd-nearest e = ap₂ (λ (a z : ℤ). set f j (a +ℤ cond (ltZ (pos 0) z) (pos 1) (negsuc 0))) (f-at j (m .place .within)) (r-at j (m .place .within))
-      ∙ ap (λ (g : List ℤ). set g j (turn S («at» v j))) (m .rounded)
-      ∙ place-nearest S S> v j (rw (m .sized .long) (place-same r-at (m .place))) (rw (m .rounded) at e)
+  within : j < length v
+  within = omega (arith, top-place top .within)
 
-  even-nearest : par (sumV f) ≡ 0 → set f j («at» f j +ℤ pos 0) ≡ nearestD S v
-  even-nearest e = ap (set f j) (+ℤ-idr («at» f j)) ∙ set-getD f j (pos 0) ∙ m .rounded
-      ∙ least-unique (subst (λ (n : ℕ). Least (Summed n v) (cost S v) (map (round S) v)) (rw (m .rounded) at e) (rounds-least S S> v)) (nearestD-least S S> v)
+  left-at : (i : ℕ) → i < 8 → «at» (map (left S) v) i ≡ left S («at» v i)
+  left-at i h = at-map (left S) v i (omega arith)
+
+  -- where the sum is odd, the change at the key's place
+  module _ (e : par (sumV f) ≡ 1) where
+    odd-nearest : set f j («at» f j +ℤ mended s k true .step) ≡ nearestD S v
+    unfolding turn mended
+    odd-nearest = ap₂ (λ (y z : ℤ). set f j (y +ℤ z)) (at-map (round S) v j within) (top-reads top .way ∙ ap sign (left-at j (top-place top .within)))
+        ∙ place-nearest S S> v j (rw long (place-same left-at (top-place top))) e
+
+    odd-cost : cost S v (nearestD S v) ≡ cost S v f +ℤ pos 2 *ℤ S *ℤ mended s k true .cost
+    unfolding mended
+    odd-cost = ap (cost S v) (sym (place-nearest S S> v j (rw long (place-same left-at (top-place top))) e)) ∙ changed-cost S v j within
+        ∙ ap (λ (z : ℤ). cost S v f +ℤ z) (mend-step (natAbs (left S («at» v j))) s ∙ ap (λ (n : ℕ). pos 2 *ℤ S *ℤ (s -ℤ pos n)) (sym (top-reads top .size ∙ ap natAbs (left-at j (top-place top .within)))))
+
+  -- where it is even, nothing
+  even-nearest : par (sumV f) ≡ 0 → f ≡ nearestD S v
+  even-nearest e = least-unique (subst (λ (n : ℕ). Least (Summed n v) (cost S v) f) e (rounds-least S S> v)) (nearestD-least S S> v)
 
   odd-or : (n : ℕ) → n < 2 → (n ≡ 1 → ⊥) → n ≡ 0
   odd-or n l h = elim (decLe n 0) [ yes k ↦ omega arith | no k ↦ absurd (h (omega arith)) ]
 
+  abbrev Mends : Bool → Type 0
+  Mends b = (set f j («at» f j +ℤ mended s k b .step) ≡ nearestD S v) × (cost S v (nearestD S v) ≡ cost S v f +ℤ pos 2 *ℤ S *ℤ mended s k b .cost)
+
+  mends : Mends (eqb (par (sumV f)) 1)
+  unfolding mended
+  mends = go (eqb (par (sumV f)) 1) refl
+    where
+      go : (b : Bool) → eqb (par (sumV f)) 1 ≡ b → Mends b
+      go true e = let o : par (sumV f) ≡ 1 = eqb-true (par (sumV f)) 1 e in (odd-nearest o, odd-cost o)
+      go false e = let n : f ≡ nearestD S v = even-nearest (odd-or (par (sumV f)) (omega arith) (eqb-false (par (sumV f)) 1 e)) in
+          (ap (set f j) (+ℤ-idr («at» f j)) ∙ set-getD f j (pos 0) ∙ n, ap (cost S v) (sym n) ∙ mend-none (cost S v f) (pos 2 *ℤ S))
+
   -- it is the nearest whole vector of even sum
-  pub mended-nearest : set f j («at» f j +ℤ t) ≡ nearestD S v
-  mended-nearest = rw (m .step) (go (eqb (par (sumV f)) 1) refl)
-    where
-      go : (b : Bool) → eqb (par (sumV f)) 1 ≡ b → set f j («at» f j +ℤ cond b (cond (ltZ (pos 0) («at» r j)) (pos 1) (negsuc 0)) (pos 0)) ≡ nearestD S v
-      go true e = odd-nearest (eqb-true (par (sumV f)) 1 e)
-      go false e = even-nearest (odd-or (par (sumV f)) (omega arith) (eqb-false (par (sumV f)) 1 e))
+  pub mend-nearest : let m = mended s k (eqb (par (sumV f)) 1) in set f (m .place) («at» f (m .place) +ℤ m .step) ≡ nearestD S v
+  unfolding mended
+  mend-nearest = mends .0
 
-  pub mended-rests : set r j («at» r j -ℤ S *ℤ t) ≡ rests S v (set f j («at» f j +ℤ t))
-  mended-rests = rw (m .leaves, m .rounded, rests-set S t v (map (round S) v) j, rests-rounds S v)
+  pub mend-cost : cost S v (nearestD S v) ≡ cost S v f +ℤ pos 2 *ℤ S *ℤ mended s k (eqb (par (sumV f)) 1) .cost
+  mend-cost = mends .1
 
-  -- how large the step, its product and the two entries that it makes are
-  step-small : natAbs t ≤ 1
-  step-small = rw (m .step) (go (eqb (par (sumV f)) 1) (ltZ (pos 0) («at» r j)))
-    where
-      go : (b p : Bool) → natAbs (cond b (cond p (pos 1) (negsuc 0)) (pos 0)) ≤ 1
-      go true true = omega arith
-      go true false = omega arith
-      go false p = omega arith
-
-  f-sized : Sized 8 (2 ^ 31) f
-  f-sized = rw (m .rounded) (rounds-sized s (m .divisor) v (m .sized))
-
-  r-sized : Sized 8 (2 ^ 14) r
-  r-sized = rw (m .leaves) (lefts-sized s (m .divisor) v (m .sized))
-
-  pub entry-small : natAbs («at» f j +ℤ t) ≤ 2 ^ 32
-  entry-small = omega (arith, abs-add («at» f j) t, f-sized .small j, step-small)
-
-  pub product-small : natAbs (S *ℤ t) ≤ 2 ^ 15
-  product-small = omega (arith, abs-mul-le S t {m = 2 ^ 15} {n = 1} (omega (arith, abs-mul (pos 2) s, m .divisor .most)) step-small)
-
-  pub rest-small : natAbs («at» r j -ℤ S *ℤ t) ≤ 2 ^ 16
-  rest-small = omega (arith, abs-sub («at» r j) (S *ℤ t), r-sized .small j, product-small)
-
-  pub mended-sized : Sized 8 (2 ^ 32) (set f j («at» f j +ℤ t))
-  mended-sized = sized-set 8 (2 ^ 31) f f-sized (2 ^ 32) (omega arith) j _ entry-small
-
-  pub rests-sized : Sized 8 (2 ^ 16) (set r j («at» r j -ℤ S *ℤ t))
-  rests-sized = sized-set 8 (2 ^ 14) r r-sized (2 ^ 16) (omega arith) j _ rest-small
+  pub mend-first : «at» (nearestD S v) 0 ≡ «at» f 0 +ℤ first (mended s k (eqb (par (sumV f)) 1))
+  unfolding mended
+  mend-first = ap (λ (e : List ℤ). «at» e 0) (sym mend-nearest) ∙ first-of f j (mended s k (eqb (par (sumV f)) 1) .step) (omega (arith, length-map v (round S)))

@@ -1,27 +1,23 @@
 -- The numbers that the code computes for one coordinate: the reciprocal, its guess, the rounding, what is left.
-use mathlib.Core.Path.{_≡_, refl, _∙_, ap}
-use mathlib.Core.Bool.{Bool, true, false, cond}
+use mathlib.Core.Path.{_≡_, _∙_, ap}
 use Prim.Native.Nat.{ℕ, suc, _+_, _*_, _/_, _%_, _^_, _<_, _≤_}
 use native.Mathlib.Nat.{mul-le-mul, le-refl, div-add-mod, mod-lt}
 use native.Mathlib.Omega.{arith}
 use lib.IntN.{ℤ, pos, negsuc, negℤ, natAbs, _+ℤ_, _-ℤ_, _*ℤ_}
-use lib.Signed.{_≤ℤ_, _<ℤ_, ltZ, quotZ, shrZ}
+use lib.Signed.{_≤ℤ_, _<ℤ_, shrZ}
 use Rattle.integers.specs.Floor.{floorDiv, floorMod}
 use Rattle.integers.specs.Laws.Difference.{D, abs-D, byD, ints, byD₂, byD₃}
 use Rattle.integers.specs.Laws.Floors.{floorMod-lt, floor-split, floorDiv-shr, byPos}
 use Rattle.integers.specs.Laws.Signed.{slack<, trichotomy}
-use Rattle.integers.specs.Laws.Sizes.{abs-add, abs-sub, abs-mul, abs-from, abs-times, ltZ-true, ltZ-false}
+use Rattle.integers.specs.Laws.Sizes.{abs-add, abs-sub, abs-mul, abs-from, abs-times}
 use Rattle.lattice.specs.Laws.Rounds.{round-rest}
 use Rattle.lattice.specs.Rounding.{round, left, Divisor, reciprocal}
 
 pub twice : (s : ℤ) → s +ℤ s ≡ pos 2 *ℤ s
 twice = byD _ λ _ _. simp ints (omega arith)
 
-pub twice-pos : (s : ℤ) → pos 1 ≤ℤ s → (pos 1 ≤ℤ (s +ℤ s)) × (pos 0 <ℤ (pos 2 *ℤ s)) × (pos 0 <ℤ s)
+pub twice-pos : (s : ℤ) → pos 1 ≤ℤ s → (pos 0 <ℤ (pos 2 *ℤ s)) × (pos 0 <ℤ s)
 twice-pos = byD _ λ _ _. simp ints (omega arith)
-
-pub reciprocal-quot : (s : ℤ) → pos 1 ≤ℤ s → quotZ (pos 4294967296) (s +ℤ s) ≡ pos (reciprocal s)
-reciprocal-quot = byPos _ λ n. ap (λ (k : ℕ). pos (4294967296 / k)) (omega arith)
 
 -- one integer leaves at most half of S
 apart : (S : ℤ) → pos 0 <ℤ S → (x q c : ℤ) → q <ℤ c → (pos 2 *ℤ (x -ℤ S *ℤ q)) ≤ℤ S → negℤ S <ℤ (pos 2 *ℤ (x -ℤ S *ℤ c)) → ⊥
@@ -51,39 +47,38 @@ unfolding guess
 guess-ok = byPos _ λ n y. go n y
   where
     go : (n : ℕ) (y : ℤ) → natAbs y ≤ 2147483648 → (pos 0 ≤ℤ (y -ℤ pos (2 * suc n) *ℤ guess (pos (suc n)) y)) × ((y -ℤ pos (2 * suc n) *ℤ guess (pos (suc n)) y) <ℤ pos (2 * (2 * suc n)))
-    go n (pos a) h = let m : ℕ = 2 * suc n in let w : ℕ = 4294967296 / m in let z : ℤ = pos a *ℤ pos w -ℤ pos 2147483648 in
-        let l : 4294967296 % m < m = mod-lt 4294967296 (omega arith) in let r : floorMod z 4294967296 < 4294967296 = floorMod-lt z 4294967296 (omega arith) in
-        guess-up m w (4294967296 % m) (floorMod z 4294967296) a (div-add-mod 4294967296 m) (mul-le-mul h (omega (arith, l))) (mul-le-mul (le-refl m) (omega (arith, r))) (omega arith) (floorDiv z 4294967296) (floor-split z 4294967296 (omega arith))
-    go n (negsuc a) h = let m : ℕ = 2 * suc n in let w : ℕ = 4294967296 / m in let z : ℤ = negsuc a *ℤ pos w -ℤ pos 2147483648 in
-        let l : 4294967296 % m < m = mod-lt 4294967296 (omega arith) in let r : floorMod z 4294967296 < 4294967296 = floorMod-lt z 4294967296 (omega arith) in
-        guess-down m w (4294967296 % m) (floorMod z 4294967296) a (div-add-mod 4294967296 m) (mul-le-mul h (omega (arith, l))) (mul-le-mul (le-refl m) (omega (arith, r))) (omega arith) (floorDiv z 4294967296) (floor-split z 4294967296 (omega arith))
+    go n (pos a) h = let m : ℕ = 2 * suc n in let w : ℕ = 2147483648 / suc n in let z : ℤ = pos a *ℤ pos w -ℤ pos 2147483648 in
+        let l : 2147483648 % suc n < suc n = mod-lt 2147483648 (omega arith) in let r : floorMod z 4294967296 < 4294967296 = floorMod-lt z 4294967296 (omega arith) in
+        guess-up m w (2 * (2147483648 % suc n)) (floorMod z 4294967296) a (omega (arith, div-add-mod 2147483648 (suc n))) (mul-le-mul h (omega (arith, l))) (mul-le-mul (le-refl m) (omega (arith, r))) (omega arith) (floorDiv z 4294967296) (floor-split z 4294967296 (omega arith))
+    go n (negsuc a) h = let m : ℕ = 2 * suc n in let w : ℕ = 2147483648 / suc n in let z : ℤ = negsuc a *ℤ pos w -ℤ pos 2147483648 in
+        let l : 2147483648 % suc n < suc n = mod-lt 2147483648 (omega arith) in let r : floorMod z 4294967296 < 4294967296 = floorMod-lt z 4294967296 (omega arith) in
+        guess-down m w (2 * (2147483648 % suc n)) (floorMod z 4294967296) a (omega (arith, div-add-mod 2147483648 (suc n))) (mul-le-mul h (omega (arith, l))) (mul-le-mul (le-refl m) (omega (arith, r))) (omega arith) (floorDiv z 4294967296) (floor-split z 4294967296 (omega arith))
 
--- the guess and its carry round x
+-- the guess rounds x where it leaves at most s, and one more rounds it where it leaves more
 module _ (s x : ℤ) (s≥ : pos 1 ≤ℤ s) (small : natAbs (x +ℤ s -ℤ pos 1) ≤ 2147483648) where
-  abbrev y : ℤ
-  y = x +ℤ s -ℤ pos 1
+  abbrev q : ℤ
+  q = guess s (x +ℤ s -ℤ pos 1)
 
-  pub guess-round : guess s y +ℤ cond (ltZ s (x -ℤ pos 2 *ℤ s *ℤ guess s y)) (pos 1) (pos 0) ≡ round (pos 2 *ℤ s) x
-  guess-round = go (ltZ s (x -ℤ pos 2 *ℤ s *ℤ guess s y)) refl
+  guess-next : s <ℤ (x -ℤ pos 2 *ℤ s *ℤ q) → q +ℤ pos 1 ≡ round (pos 2 *ℤ s) x
+  guess-next l = let k = go s x q s≥ (guess-ok s s≥ (x +ℤ s -ℤ pos 1) small .1) l in round-is (pos 2 *ℤ s) x _ (twice-pos s s≥ .0) (k .0) (k .1)
     where
-      yes-carry : (s x q : ℤ) → pos 1 ≤ℤ s → (x +ℤ s -ℤ pos 1 -ℤ pos 2 *ℤ s *ℤ q) <ℤ (pos 2 *ℤ (pos 2 *ℤ s)) → s <ℤ (x -ℤ pos 2 *ℤ s *ℤ q)
+      go : (s x q : ℤ) → pos 1 ≤ℤ s → (x +ℤ s -ℤ pos 1 -ℤ pos 2 *ℤ s *ℤ q) <ℤ (pos 2 *ℤ (pos 2 *ℤ s)) → s <ℤ (x -ℤ pos 2 *ℤ s *ℤ q)
           → (negℤ (pos 2 *ℤ s) <ℤ (pos 2 *ℤ (x -ℤ pos 2 *ℤ s *ℤ (q +ℤ pos 1)))) × ((pos 2 *ℤ (x -ℤ pos 2 *ℤ s *ℤ (q +ℤ pos 1))) ≤ℤ (pos 2 *ℤ s))
-      yes-carry = byD₃ _ λ _ _ _ _ _ _. simp ints (omega arith)
+      go = byD₃ _ λ _ _ _ _ _ _. simp ints (omega arith)
 
-      no-carry : (s x q : ℤ) → pos 1 ≤ℤ s → pos 0 ≤ℤ (x +ℤ s -ℤ pos 1 -ℤ pos 2 *ℤ s *ℤ q) → (x -ℤ pos 2 *ℤ s *ℤ q) ≤ℤ s
-          → (negℤ (pos 2 *ℤ s) <ℤ (pos 2 *ℤ (x -ℤ pos 2 *ℤ s *ℤ (q +ℤ pos 0)))) × ((pos 2 *ℤ (x -ℤ pos 2 *ℤ s *ℤ (q +ℤ pos 0))) ≤ℤ (pos 2 *ℤ s))
-      no-carry = byD₃ _ λ _ _ _ _ _ _. simp ints (omega arith)
-
-      go : (b : Bool) → ltZ s (x -ℤ pos 2 *ℤ s *ℤ guess s y) ≡ b → guess s y +ℤ cond b (pos 1) (pos 0) ≡ round (pos 2 *ℤ s) x
-      go true e = let g = guess-ok s s≥ y small in let k = yes-carry s x (guess s y) s≥ (g .1) (ltZ-true _ _ e) in round-is (pos 2 *ℤ s) x _ (twice-pos s s≥ .1) (k .0) (k .1)
-      go false e = let g = guess-ok s s≥ y small in let k = no-carry s x (guess s y) s≥ (g .0) (ltZ-false _ _ e) in round-is (pos 2 *ℤ s) x _ (twice-pos s s≥ .1) (k .0) (k .1)
+  guess-right : (x -ℤ pos 2 *ℤ s *ℤ q) ≤ℤ s → q ≡ round (pos 2 *ℤ s) x
+  guess-right l = let k = go s x q s≥ (guess-ok s s≥ (x +ℤ s -ℤ pos 1) small .0) l in round-is (pos 2 *ℤ s) x _ (twice-pos s s≥ .0) (k .0) (k .1)
+    where
+      go : (s x q : ℤ) → pos 1 ≤ℤ s → pos 0 ≤ℤ (x +ℤ s -ℤ pos 1 -ℤ pos 2 *ℤ s *ℤ q) → (x -ℤ pos 2 *ℤ s *ℤ q) ≤ℤ s
+          → (negℤ (pos 2 *ℤ s) <ℤ (pos 2 *ℤ (x -ℤ pos 2 *ℤ s *ℤ q))) × ((pos 2 *ℤ (x -ℤ pos 2 *ℤ s *ℤ q)) ≤ℤ (pos 2 *ℤ s))
+      go = byD₃ _ λ _ _ _ _ _ _. simp ints (omega arith)
 
 -- what is left, and how large a rounded coordinate is
 half-left : (s r : ℤ) → pos 1 ≤ℤ s → negℤ (pos 2 *ℤ s) <ℤ (pos 2 *ℤ r) → (pos 2 *ℤ r) ≤ℤ (pos 2 *ℤ s) → natAbs r ≤ natAbs s
 half-left = byD₂ _ λ _ _ _ _. simp (ints, abs-D) (omega arith)
 
 pub left-small : (s : ℤ) → Divisor s → (x : ℤ) → natAbs (left (pos 2 *ℤ s) x) ≤ natAbs s
-left-small s h x = let r = round-rest (pos 2 *ℤ s) x (twice-pos s (h .least) .1) in half-left s (left (pos 2 *ℤ s) x) (h .least) (r .0) (r .1)
+left-small s h x = let r = round-rest (pos 2 *ℤ s) x (twice-pos s (h .least) .0) in half-left s (left (pos 2 *ℤ s) x) (h .least) (r .0) (r .1)
 
 pub round-small : (s : ℤ) → Divisor s → (x : ℤ) → natAbs (round (pos 2 *ℤ s) x) ≤ natAbs x + 16384
 round-small s h x = let r : ℤ = round (pos 2 *ℤ s) x in
@@ -93,10 +88,10 @@ round-small s h x = let r : ℤ = round (pos 2 *ℤ s) x in
     doubled = byPos _ λ n. omega arith
 
 pub reciprocal-small : (s : ℤ) → pos 1 ≤ℤ s → reciprocal s ≤ 2147483648
-reciprocal-small = byPos _ λ n. omega (arith, div-add-mod 4294967296 (2 * suc n))
+reciprocal-small = byPos _ λ n. omega (arith, div-add-mod 2147483648 (suc n))
 
 -- the same in the code's terms
-module _ (s x w : ℤ) (h : Divisor s) (k : natAbs x ≤ 2 ^ 30 + 2 ^ 14) (e : w ≡ pos (reciprocal s)) where
+module _ (s x w : ℤ) (h : Divisor s) (k : natAbs x ≤ 2 ^ 30) (e : w ≡ pos (reciprocal s)) where
   abbrev codeY : ℤ
   codeY = x +ℤ s -ℤ pos 1
 
@@ -105,6 +100,9 @@ module _ (s x w : ℤ) (h : Divisor s) (k : natAbs x ≤ 2 ^ 30 + 2 ^ 14) (e : w
 
   abbrev codeQ : ℤ
   codeQ = shrZ codeZ 4294967296
+
+  abbrev codeR : ℤ
+  codeR = x -ℤ (s +ℤ s) *ℤ codeQ
 
   pub y-small : natAbs codeY ≤ 2147483648
   y-small = omega (arith, abs-sub (x +ℤ s) (pos 1), abs-add x s, h .most)
@@ -120,14 +118,13 @@ module _ (s x w : ℤ) (h : Divisor s) (k : natAbs x ≤ 2 ^ 30 + 2 ^ 14) (e : w
   mq-small = let g = guess-ok s (h .least) codeY y-small in
       rw (is-guess, twice s) (omega (arith, product-small codeY (pos 2 *ℤ s) (pos 2 *ℤ s *ℤ guess s codeY) (g .0) (g .1), abs-mul (pos 2) s, h .most, y-small))
 
-  pub code-round : codeQ +ℤ cond (ltZ s (x -ℤ (s +ℤ s) *ℤ codeQ)) (pos 1) (pos 0) ≡ round (pos 2 *ℤ s) x
-  code-round = rw (is-guess, twice s) (guess-round s x (h .least) y-small)
+  -- where more than s is left, and where not
+  pub code-next : s <ℤ codeR → (codeQ +ℤ pos 1 ≡ round (pos 2 *ℤ s) x) × (codeR -ℤ (s +ℤ s) ≡ left (pos 2 *ℤ s) x)
+  code-next l = let q : codeQ +ℤ pos 1 ≡ round (pos 2 *ℤ s) x = rw is-guess (guess-next s x (h .least) y-small (rw (is-guess, twice s) at l)) in
+      (q, step s x codeQ ∙ ap (λ (t : ℤ). x -ℤ pos 2 *ℤ s *ℤ t) q)
+    where
+      step : (s x q : ℤ) → x -ℤ (s +ℤ s) *ℤ q -ℤ (s +ℤ s) ≡ x -ℤ pos 2 *ℤ s *ℤ (q +ℤ pos 1)
+      step = byD₃ _ λ _ _ _ _ _ _. simp ints (omega arith)
 
-pub less-one : (x s : ℤ) → x -ℤ s ≡ x -ℤ s *ℤ pos 1
-less-one = byD₂ _ λ _ _ _ _. simp ints (omega arith)
-
-pub zero-less : (x : ℤ) → natAbs (pos 0 -ℤ x) ≡ natAbs x
-zero-less = byD _ λ _ _. simp (ints, abs-D) (omega arith)
-
-pub zero-less-pos : (x : ℤ) → x ≤ℤ pos 0 → pos 0 ≤ℤ (pos 0 -ℤ x)
-zero-less-pos = byD _ λ _ _. simp ints (omega arith)
+  pub code-right : codeR ≤ℤ s → (codeQ ≡ round (pos 2 *ℤ s) x) × (codeR ≡ left (pos 2 *ℤ s) x)
+  code-right l = let q : codeQ ≡ round (pos 2 *ℤ s) x = rw is-guess (guess-right s x (h .least) y-small (rw (is-guess, twice s) at l)) in (q, rw (twice s, q))

@@ -1,14 +1,12 @@
--- `key` is the key of x at the entry i: x and 0 - x are at most 2^14, so that nothing wraps and no cast loses bits.
-use borrow.Author.Needs.{needs}
+-- `key` is the key of x at the entry i: 128 x + i or 15 less that, both small, so that nothing wraps and no cast loses bits.
 use native.Mathlib.Omega.{arith}
-use lib.IntN.{ℤ, pos, _-ℤ_}
-use lib.Signed.{yes-nonNeg}
+use lib.IntN.{ℤ, pos, _+ℤ_, _-ℤ_, _*ℤ_}
+use lib.Signed.{_≤ℤ_, _<ℤ_, yes-nonNeg}
 use mir.Syntax.{w64}
 use mir.Val.{SFits}
 use mir.Facts.{toZ-ofZ, fits-natAbs}
-use Rattle.integers.specs.Laws.Signed.{<ℤ-weak}
-use Rattle.integers.specs.Laws.Sizes.{fits-abs, leZ-true, leZ-false}
-use Rattle.lattice.specs.Laws.Reciprocals.{zero-less, zero-less-pos}
+use Rattle.integers.specs.Laws.Sizes.{abs-add, abs-mul, fits-abs, fits-add, fits-sub, leZ-true, leZ-false}
+use Rattle.lattice.specs.Laws.Keys.{code-down, code-up}
 use Rattle.lattice.proofs.coordinate.key.Statement.{statement}
 use Rattle.lattice.proofs.coordinate.key.Tie as tie
 
@@ -16,50 +14,54 @@ module _ (c : tie.Start) where
   abbrev x : ℤ
   x = c .args .x
 
-  minus : SFits w64 (pos 0 -ℤ x)
-  minus = fits-abs _ (omega (arith, zero-less x))
+  abbrev i : ℤ
+  i = pos (c .args .i)
+
+  abbrev b : ℤ
+  b = pos 128 *ℤ x +ℤ i
+
+  fi : SFits w64 i
+  fi = fits-abs i (omega arith)
+
+  fx : SFits w64 (pos 128 *ℤ x)
+  fx = fits-abs _ (omega (arith, abs-mul (pos 128) x))
+
+  fb : SFits w64 b
+  fb = fits-add (pos 128 *ℤ x) i (omega (arith, abs-mul (pos 128) x))
+
+  minus : SFits w64 (pos 15 -ℤ b)
+  minus = fits-sub (pos 15) b (omega (arith, abs-add (pos 128 *ℤ x) i, abs-mul (pos 128) x))
+
+low : (c : tie.Then1) → b (c .before) ≤ℤ pos 7
+low c = let s = c .before in leZ-true (b s) (pos 7) (simp (toZ-ofZ, s .fits .x, fi s, fx s, fb s) at (c .if1 .taken))
+
+high : (c : tie.Else1) → pos 7 <ℤ b (c .before)
+high c = let s = c .before in leZ-false (b s) (pos 7) (simp (toZ-ofZ, s .fits .x, fi s, fx s, fb s) at (c .if1 .left))
+
+mul-b : tie.Need-mul-b
+mul-b c = simp (toZ-ofZ, c .fits .x) (fx c)
+
+cast-b : tie.Need-cast-b
+cast-b c = fi c
+
+add-b : tie.Need-add-b
+add-b c = simp (toZ-ofZ, c .fits .x, fi c, fx c) (fb c)
 
 sub-result : tie.Need-sub-result
-sub-result c = let b = c .before in simp (toZ-ofZ, b .fits .x) (minus b)
+sub-result c = let s = c .before in simp (toZ-ofZ, s .fits .x, fi s, fx s, fb s) (minus s)
 
 cast-result : tie.Need-cast-result
-cast-result c = let b = c .before in simp (toZ-ofZ, b .fits .x, minus b) (yes-nonNeg (zero-less-pos (x b) (leZ-true _ _ (simp (toZ-ofZ, b .fits .x) at (c .if1 .taken)))), fits-natAbs tt (minus b))
-
-mul-result : tie.Need-mul-result
-mul-result c = let b = c .before in simp (toZ-ofZ, b .fits .x, minus b) (record { fits = omega (arith, zero-less (x b)) })
-
-sub-result-2 : tie.Need-sub-result-2
-sub-result-2 c = search needs
-
-add-result : tie.Need-add-result
-add-result c = let b = c .before in simp (toZ-ofZ, b .fits .x, minus b) (record { fits = omega (arith, zero-less (x b)) })
+cast-result c = let s = c .before in simp (toZ-ofZ, s .fits .x, fi s, fx s, fb s, minus s) (yes-nonNeg (code-down (s .args .i) (s .pre .1) (x s) (low c) .0), fits-natAbs tt (minus s))
 
 cast-result-2 : tie.Need-cast-result-2
-cast-result-2 c = let b = c .before in simp (toZ-ofZ, b .fits .x) (yes-nonNeg {z = x b} (<ℤ-weak _ _ (leZ-false (x b) (pos 0) (simp (toZ-ofZ, b .fits .x) at (c .if1 .left)))), fits-natAbs tt (b .fits .x))
-
-mul-result-2 : tie.Need-mul-result-2
-mul-result-2 c = simp (toZ-ofZ, c .before .fits .x) (record { fits = omega arith })
-
-add-result-2 : tie.Need-add-result-2
-add-result-2 c = simp (toZ-ofZ, c .before .fits .x) (record { fits = omega arith })
+cast-result-2 c = let s = c .before in simp (toZ-ofZ, s .fits .x, fi s, fx s, fb s) (yes-nonNeg (code-up (s .args .i) (s .pre .1) (x s) (high c) .0), fits-natAbs tt (fb s))
 
 returns : tie.Need-returns
-returns c = let b = c .before in simp (toZ-ofZ, b .fits .x, minus b) (rw (zero-less (x b), simp (toZ-ofZ, b .fits .x) at (c .if1 .taken)))
+returns c = let s = c .before in simp (toZ-ofZ, s .fits .x, fi s, fx s, fb s, minus s) (code-down (s .args .i) (s .pre .1) (x s) (low c) .1)
 
 returns-2 : tie.Need-returns-2
-returns-2 c = let b = c .before in simp (toZ-ofZ, b .fits .x) (rw (simp (toZ-ofZ, b .fits .x) at (c .if1 .left)))
+returns-2 c = let s = c .before in simp (toZ-ofZ, s .fits .x, fi s, fx s, fb s) (code-up (s .args .i) (s .pre .1) (x s) (high c) .1)
 
 pub key-spec : {M : Type 1} → statement M
 key-spec =
-    tie.close
-    (tie.spec
-    sub-result
-    cast-result
-    mul-result
-    sub-result-2
-    add-result
-    cast-result-2
-    mul-result-2
-    add-result-2
-    returns
-    returns-2)
+    tie.close (tie.spec mul-b cast-b add-b sub-result cast-result cast-result-2 returns returns-2)

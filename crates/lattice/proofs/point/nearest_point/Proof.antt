@@ -1,131 +1,209 @@
--- `nearest_point` takes the closer half: of both halves and what they leave, `nearestPoint-code` says which is the nearest point.
+-- `nearest_point` rounds, passes over the roundings once, chooses a half and mends it; `nearestPoint-code` says that this is the nearest point.
 use borrow.Author.Needs.{needs}
-use mathlib.Core.Path.{_≡_, refl, sym, _∙_, ap}
-use mathlib.Core.Bool.{cond}
-use mathlib.Core.List.{List}
-use Prim.Native.Nat.{_+_, _^_}
+use mathlib.Core.Path.{_≡_, refl, sym, _∙_, ap, ap₂, subst}
+use mathlib.Core.List.{List, map}
+use Prim.Native.Nat.{_^_, _<_, _≤_}
 use native.Mathlib.Omega.{arith}
-use lib.IntN.{ℤ, pos, _*ℤ_}
+use lib.IntN.{ℤ, pos, natAbs, _+ℤ_, _*ℤ_}
+use lib.ListN.{set}
 use mir.Syntax.{w64}
-use mir.Val.{SFits, toZ, ofZ}
+use mir.Val.{SFits}
 use mir.Facts.{toZ-ofZ}
-use Rattle.integers.specs.Laws.Sizes.{fits-abs}
+use Rattle.integers.specs.Laws.Sizes.{abs-mul, fits-abs, fits-add}
 use Rattle.integers.specs.Laws.Sums.{sized-more}
-use Rattle.integers.specs.Vectors.{«at», dot}
-use Rattle.lattice.specs.Computed.{nearestD, spread, lower, nearestPoint}
-use Rattle.lattice.specs.Laws.Choice.{nearestPoint-code, lower-sized}
+use Rattle.integers.specs.Vectors.{«at», Sized}
+use Rattle.lattice.specs.declared.point.Choice.{Choice}
+use Rattle.lattice.specs.Laws.Choice.{sign-small, spread-small, chosen-small, nearestPoint-code}
+use Rattle.lattice.specs.Laws.Mended.{rounds-sized, lefts-sized}
 use Rattle.lattice.specs.Laws.Reciprocals.{twice-pos}
-use Rattle.lattice.specs.Rounding.{rests, reciprocal, ahead}
+use Rattle.lattice.specs.Laws.Scans.{scan-ranged}
+use Rattle.lattice.specs.Pass.{Ranged, scanned, chosen, spreadBy}
+use Rattle.lattice.specs.Rounding.{round, left, sign, reciprocal}
 use Rattle.lattice.proofs.point.nearest_point.Statement.{statement}
 use Rattle.lattice.proofs.point.nearest_point.Tie as tie
 
-reciprocal-requires : tie.Need-reciprocal-requires
-reciprocal-requires c κs = search needs
-
-lower-requires : tie.Need-lower-requires
-lower-requires c κs = search needs
-
-module _ (c : tie.After-lower) where
-  abbrev b₀ : tie.Start
-  b₀ = c .before .before
-
-  fw : SFits w64 (c .before .reciprocal .result)
-  fw = record { sfits = c .before .reciprocal .ok }
-
-  w-is : c .before .reciprocal .result ≡ pos (reciprocal (b₀ .args .s))
-  w-is = simp (toZ-ofZ, b₀ .fits .s) at (c .before .reciprocal .ensures)
-
-  lowered : c .lower .result ≡ lower (b₀ .args .s) 1 (b₀ .args .d .now)
-  lowered = simp (toZ-ofZ, b₀ .fits .s) at (c .lower .ensures)
-
-nearest-d-requires : tie.Need-nearest-d-requires
-nearest-d-requires c κs = let l = c .before .before in let b = b₀ l in simp (toZ-ofZ, b .fits .s, fw l) (b .pre .0, sized-more 8 _ (b .args .d .now) (b .pre .1) (2 ^ 30 + 2 ^ 14) (omega arith), w-is l, refl, refl)
-
-nearest-d-requires-2 : tie.Need-nearest-d-requires-2
-nearest-d-requires-2 c κs = let l = c .before .before .before .before .before .before in let b = b₀ l in
-    simp (toZ-ofZ, b .fits .s, fw l) (b .pre .0, rw (lowered l) (lower-sized (b .args .s) (b .pre .0) (b .args .d .now) (b .pre .1)), w-is l, refl, refl)
-
-array-copy-out-closer : tie.Need-array-copy-out-closer
-array-copy-out-closer c = search needs
-
-array-copy-out-closer-2 : tie.Need-array-copy-out-closer-2
-array-copy-out-closer-2 c = search needs
-
-closer-requires : tie.Need-closer-requires
-closer-requires c κs = search needs
-
-spread-requires : tie.Need-spread-requires
-spread-requires c κs = search needs
-
--- the choice between the halves, f and g, of which A and B are left
-module _ (c : tie.After-closer) where
-  abbrev o : tie.After-nearest-d2
-  o = c .before .before .before .before .before
-
-  abbrev e : tie.After-nearest-d
-  e = o .before .before .before .before
-
-  abbrev l : tie.After-lower
-  l = e .before .before .before
-
-  abbrev b : tie.Start
-  b = b₀ l
-
+-- the roundings F of d, which leave A, and the choice that they lead to
+module _ (b : tie.Start) where
   abbrev s : ℤ
   s = b .args .s
 
   abbrev d : List ℤ
   d = b .args .d .now
 
-  abbrev f : List ℤ
-  f = e .nearest-d .last .1 .1 .1 .0
-
-  abbrev g : List ℤ
-  g = o .nearest-d2 .last .1 .1 .1 .0
+  abbrev F : List ℤ
+  F = map (round (pos 2 *ℤ s)) d
 
   abbrev A : List ℤ
-  A = e .nearest-d .last .1 .1 .1 .1 .0
+  A = map (left (pos 2 *ℤ s)) d
 
-  abbrev B : List ℤ
-  B = o .nearest-d2 .last .1 .1 .1 .1 .0
+  abbrev C : Choice
+  C = chosen s (scanned 8 F A) (sign («at» A 0))
 
-  f-is : f ≡ nearestD (pos 2 *ℤ s) d
-  f-is = simp (toZ-ofZ, b .fits .s) at (e .nearest-d .ensures .0)
+  F-sized : Sized 8 (2 ^ 32) F
+  F-sized = rounds-sized s (b .pre .0) d (b .pre .1)
 
-  g-is : g ≡ nearestD (pos 2 *ℤ s) (lower s 1 d)
-  g-is = (simp (toZ-ofZ, b .fits .s) at (o .nearest-d2 .ensures .0)) ∙ ap (nearestD (pos 2 *ℤ s)) (lowered l)
+  A-sized : Sized 8 (natAbs s) A
+  A-sized = lefts-sized s (b .pre .0) d (b .pre .1)
 
-  A-is : A ≡ rests (pos 2 *ℤ s) d f
-  A-is = simp (toZ-ofZ, b .fits .s) at (e .nearest-d .ensures .1)
+  ranged : Ranged s (scanned 8 F A)
+  ranged = scan-ranged s F A (F-sized .small) (A-sized .small) (b .pre .0)
 
-  B-is : B ≡ rests (pos 2 *ℤ s) (lower s 1 d) g
-  B-is = (simp (toZ-ofZ, b .fits .s) at (o .nearest-d2 .ensures .1)) ∙ ap (λ (v : List ℤ). rests (pos 2 *ℤ s) v g) (lowered l)
+  C-small : (natAbs (C .parity) ≤ 1) × (C .place < 8) × (natAbs (C .step) ≤ 1)
+  C-small = chosen-small s (twice-pos s (b .pre .0 .least) .1) d (b .pre .1 .long) (b .pre .0) ranged
 
-  ff : SFits w64 («at» f 0)
-  ff = fits-abs _ (omega (arith, e .nearest-d .ensures .2 .small 0))
+reciprocal-requires : tie.Need-reciprocal-requires
+reciprocal-requires c κs = search needs
 
-  fg : SFits w64 («at» g 0)
-  fg = fits-abs _ (omega (arith, o .nearest-d2 .ensures .2 .small 0))
+rounds-requires : tie.Need-rounds-requires
+rounds-requires c κs = let r = c .before .before in let b = r .before in let f : SFits w64 (r .reciprocal .result) = record { sfits = r .reciprocal .ok } in
+    simp (toZ-ofZ, b .fits .s, f) (b .pre .0, b .pre .1, simp (toZ-ofZ, b .fits .s) at (r .reciprocal .ensures), refl, refl)
 
-  tested : c .closer .result ≡ ahead (dot A A) (dot B B) (toZ w64 (ofZ w64 («at» f 0))) (toZ w64 (ofZ w64 («at» g 0)))
-  tested = c .closer .ensures
+-- what the calls have made
+module _ (c : tie.After-rounds) where
+  abbrev b₁ : tie.Start
+  b₁ = c .before .before .before .before
 
-  chosen : nearestPoint s d ≡ cond (c .closer .result) (spread 0 f) (spread 1 g)
-  chosen = let x = ff in let y = fg in nearestPoint-code s (twice-pos s (b .pre .0 .least) .2) d (b .pre .1 .long) f-is g-is A-is B-is (simp (toZ-ofZ, x, y) at tested)
+  abbrev f : List ℤ
+  f = c .rounds .last .1 .1 .1 .0
+
+  abbrev a : List ℤ
+  a = c .rounds .last .1 .1 .1 .1 .0
+
+  f-is : f ≡ F b₁
+  f-is = (simp (toZ-ofZ, b₁ .fits .s) at (c .rounds .ensures)) .0
+
+  a-is : a ≡ A b₁
+  a-is = (simp (toZ-ofZ, b₁ .fits .s) at (c .rounds .ensures)) .1
+
+  f-sized : Sized 8 (2 ^ 32) f
+  f-sized = subst (Sized 8 (2 ^ 32)) (sym f-is) (F-sized b₁)
+
+  a-sized : Sized 8 (2 ^ 14) a
+  a-sized = subst (Sized 8 (2 ^ 14)) (sym a-is) (sized-more 8 (natAbs (s b₁)) (A b₁) (A-sized b₁) (2 ^ 14) (omega (arith, b₁ .pre .0 .most)))
+
+scanned-requires : tie.Need-scanned-requires
+scanned-requires c κs = let r = c .before .before in (f-sized r, a-sized r)
+
+module _ (c : tie.After-scanned) where
+  abbrev made : tie.After-rounds
+  made = c .before .before .before
+
+  abbrev b₂ : tie.Start
+  b₂ = b₁ made
+
+  scan-is : c .scanned .result ≡ scanned 8 (F b₂) (A b₂)
+  scan-is = c .scanned .ensures ∙ ap₂ (scanned 8) (f-is made) (a-is made)
+
+array-copy-out-sign : tie.Need-array-copy-out-sign
+array-copy-out-sign c = omega arith
+
+sign-requires : tie.Need-sign-requires
+sign-requires c κs = tt
+
+module _ (c : tie.After-sign) where
+  abbrev seen : tie.After-scanned
+  seen = c .before .before
+
+  abbrev b₃ : tie.Start
+  b₃ = b₂ seen
+
+  way-is : c .sign .result ≡ sign («at» (A b₃) 0)
+  way-is = let g : SFits w64 («at» (a (made seen)) 0) = fits-abs _ (omega (arith, a-sized (made seen) .small 0)) in
+      (simp (toZ-ofZ, g) at (c .sign .ensures)) ∙ ap (λ (l : List ℤ). sign («at» l 0)) (a-is (made seen))
+
+  fw : SFits w64 (c .sign .result)
+  fw = record { sfits = c .sign .ok }
+
+chosen-requires : tie.Need-chosen-requires
+chosen-requires c κs = let b = b₃ c in
+    simp (toZ-ofZ, b .fits .s, fw c) (b .pre .0, subst (Ranged (s b)) (sym (scan-is (seen c))) (ranged b), subst (λ (w : ℤ). natAbs w ≤ 1) (sym (way-is c)) (sign-small («at» (A b) 0)))
+
+module _ (c : tie.After-chosen) where
+  abbrev way : tie.After-sign
+  way = c .before
+
+  abbrev b₄ : tie.Start
+  b₄ = b₃ way
+
+  C-is : c .chosen .result ≡ C b₄
+  C-is = (simp (toZ-ofZ, b₄ .fits .s, fw way) at (c .chosen .ensures)) ∙ ap₂ (chosen (s b₄)) (scan-is (seen way)) (way-is way)
+
+  small : (natAbs (c .chosen .result .parity) ≤ 1) × (c .chosen .result .place < 8) × (natAbs (c .chosen .result .step) ≤ 1)
+  small = subst (λ (h : Choice). (natAbs (h .parity) ≤ 1) × (h .place < 8) × (natAbs (h .step) ≤ 1)) (sym C-is) (C-small b₄)
+
+spread-requires : tie.Need-spread-requires
+spread-requires c κs = let n = c .before .before .before in let r = made (seen (way n)) in let g : SFits w64 (n .chosen .result .parity) = fits-abs _ (omega (arith, small n .0)) in
+    simp (toZ-ofZ, g) (small n .0, f-sized r, a-sized r)
+
+module _ (c : tie.After-spread) where
+  abbrev picked : tie.After-chosen
+  picked = c .before .before .before .before
+
+  abbrev b₅ : tie.Start
+  b₅ = b₄ picked
+
+  abbrev h : Choice
+  h = picked .chosen .result
+
+  abbrev e : List ℤ
+  e = c .spread .result
+
+  e-is : e ≡ spreadBy (C b₅ .parity) (F b₅) (A b₅)
+  e-is = let r = made (seen (way picked)) in let g : SFits w64 (h .parity) = fits-abs _ (omega (arith, small picked .0)) in
+      (simp (toZ-ofZ, g) at (c .spread .ensures)) ∙ ap₂ (spreadBy (h .parity)) (f-is r) (a-is r) ∙ ap (λ (k : Choice). spreadBy (k .parity) (F b₅) (A b₅)) (C-is picked)
+
+  e-small : natAbs («at» e (h .place)) ≤ 2 ^ 34
+  e-small = subst (λ (l : List ℤ). natAbs («at» l (h .place)) ≤ 2 ^ 34) (sym e-is) (spread-small (C b₅ .parity) (F b₅) (A b₅) (C-small b₅ .0) (F-sized b₅ .small) (h .place) (small picked .1))
+
+  fe : SFits w64 («at» e (h .place))
+  fe = fits-abs _ (omega (arith, e-small))
+
+  ft : SFits w64 (h .step)
+  ft = fits-abs _ (omega (arith, small picked .2))
+
+  f2t : SFits w64 (pos 2 *ℤ h .step)
+  f2t = fits-abs _ (omega (arith, abs-mul (pos 2) (h .step), small picked .2))
+
+  fet : SFits w64 («at» e (h .place) +ℤ pos 2 *ℤ h .step)
+  fet = fits-add («at» e (h .place)) (pos 2 *ℤ h .step) (omega (arith, e-small, abs-mul (pos 2) (h .step), small picked .2))
+
+mul-e : tie.Need-mul-e
+mul-e c = record { fits = omega (arith, small (picked c) .1) }
+
+array-copy-out-e : tie.Need-array-copy-out-e
+array-copy-out-e c = small (picked c) .1
+
+mul-e-2 : tie.Need-mul-e-2
+mul-e-2 c = let n = c .before .before .before in simp (toZ-ofZ, ft n) (f2t n)
+
+add-e : tie.Need-add-e
+add-e c = let n = c .before .before .before in simp (toZ-ofZ, fe n, ft n, f2t n) (fet n)
+
+mul-e-3 : tie.Need-mul-e-3
+mul-e-3 c = let n = c .before .before .before in record { fits = omega (arith, small (picked n) .1) }
+
+array-set-from-e : tie.Need-array-set-from-e
+array-set-from-e c = let n = c .before .before .before in small (picked n) .1
 
 returns : tie.Need-returns
-returns c = c .spread .ensures ∙ sym (chosen (c .before .before .before))
+returns c = let n = c .before .before .before in let b = b₅ n in simp (toZ-ofZ, fe n, ft n, f2t n, fet n)
+    (ap₂ (λ (e : List ℤ) (h : Choice). set e (h .place) («at» e (h .place) +ℤ pos 2 *ℤ h .step)) (e-is n) (C-is (picked n)) ∙ nearestPoint-code (s b) (twice-pos (s b) (b .pre .0 .least) .1) (d b) (b .pre .1 .long))
 
 pub nearest-point-spec : {M : Type 1} → statement M
 nearest-point-spec =
     tie.close
     (tie.spec
     reciprocal-requires
-    lower-requires
-    nearest-d-requires
-    nearest-d-requires-2
-    array-copy-out-closer
-    array-copy-out-closer-2
-    closer-requires
+    rounds-requires
+    scanned-requires
+    array-copy-out-sign
+    sign-requires
+    chosen-requires
     spread-requires
+    mul-e
+    array-copy-out-e
+    mul-e-2
+    add-e
+    mul-e-3
+    array-set-from-e
     returns)

@@ -1,127 +1,112 @@
--- `spread` fills its result by twice each entry of the chosen half, plus 0 or 1.
-use mathlib.Core.Path.{_≡_, refl, sym, _∙_, ap₂, subst₂}
-use mathlib.Core.Bool.{Bool, true, false, cond}
-use mathlib.Core.List.{List, map}
-use Prim.Native.Nat.{ℕ, _-_, _^_, _≤_}
+-- `spread` fills its result by twice each rounding and p times the way on.
+use mathlib.Core.Path.{_≡_, refl, sym, _∙_, ap, subst}
+use mathlib.Core.List.{List}
+use Prim.Native.Nat.{ℕ, _-_, _^_}
+use native.Mathlib.Nat.{zero-add}
 use native.Mathlib.Omega.{arith}
-use borrow.Author.Needs.{needs}
-use lib.IntN.{ℤ, pos, natAbs, _+ℤ_, _*ℤ_}
+use lib.IntN.{ℤ, pos, _+ℤ_, _*ℤ_}
+use lib.ListN.{getD}
 use mir.Syntax.{w64}
-use mir.Val.{SFits}
+use mir.Val.{SFits, toZ}
 use mir.Facts.{toZ-ofZ}
-use Rattle.integers.specs.Laws.Loops.{Filled, filled-more, filled-all}
-use Rattle.integers.specs.Laws.Sizes.{abs-mul, fits-add, fits-mul}
-use Rattle.integers.specs.Vectors.{«at», Sized}
-use Rattle.lattice.specs.Computed.{spread}
+use Rattle.integers.specs.Laws.Loops.{Filled, filled-more, filled-all, range, range-at}
+use Rattle.integers.specs.Laws.Sizes.{abs-mul, abs-mul-le, fits-abs, fits-add, fits-mul}
+use Rattle.integers.specs.Vectors.{«at»}
+use Rattle.lattice.specs.Laws.Choice.{sign-small}
+use Rattle.lattice.specs.Rounding.{sign}
 use Rattle.lattice.proofs.point.spread.Statement.{statement}
 use Rattle.lattice.proofs.point.spread.Tie as tie
 
--- an entry doubled, with the parity of the half
-abbrev wide : Bool → ℤ → ℤ
-wide even x = pos 2 *ℤ x +ℤ cond even (pos 0) (pos 1)
+-- an entry of the half of parity p
+abbrev wide : ℤ → List ℤ → List ℤ → ℕ → ℤ
+wide p f a i = pos 2 *ℤ «at» f i +ℤ p *ℤ sign («at» a i)
 
 abbrev Inv-loop : tie.InvT-loop
-Inv-loop even f g p r₀ i₀ r i = Filled (wide even) 8 (cond even f g) i r
+Inv-loop p f a e₀ i₀ e i = Filled (wide (toZ w64 p) f a) 8 (range 0 8) i e
 
 abbrev μ-loop : tie.MeasureT-loop
-μ-loop even f g p r₀ i₀ r i = 8 - i
+μ-loop p f a e₀ i₀ e i = 8 - i
 
-chosen-sized : (b : Bool) (f g : List ℤ) → Sized 8 (2 ^ 32) f → Sized 8 (2 ^ 32) g → Sized 8 (2 ^ 32) (cond b f g)
-chosen-sized true f g h k = h
-chosen-sized false f g h k = k
-
-chosen-at : (b : Bool) (f g : List ℤ) (i : ℕ) → cond b («at» f i) («at» g i) ≡ «at» (cond b f g) i
-chosen-at true f g i = refl
-chosen-at false f g i = refl
-
-bit : (b : Bool) → natAbs (cond b (pos 0) (pos 1)) ≤ 1
-bit true = omega arith
-bit false = omega arith
-
-chosen-spread : (b : Bool) (f g : List ℤ) → map (wide b) (cond b f g) ≡ cond b (spread 0 f) (spread 1 g)
-chosen-spread true f g = refl
-chosen-spread false f g = refl
-
-either-requires : tie.Need-either-requires Inv-loop μ-loop
-either-requires c κs = search needs
-
--- the entry chosen, doubled, with the parity
-module _ (c : tie.After-either2 Inv-loop μ-loop) where
-  abbrev at-loop : tie.At-loop Inv-loop μ-loop
-  at-loop = c .before .before .before .before
-
-  abbrev start : tie.Start Inv-loop μ-loop
-  start = at-loop .before .before
-
-  abbrev even : Bool
-  even = start .args .even
-
-  abbrev f : List ℤ
-  f = start .args .f .now
-
-  abbrev g : List ℤ
-  g = start .args .g .now
+module _ (l : tie.In-loop Inv-loop μ-loop) where
+  abbrev b : tie.Start Inv-loop μ-loop
+  b = l .before .before
 
   abbrev i : ℕ
-  i = at-loop .loop .i
-
-  abbrev x : ℤ
-  x = «at» (cond even f g) i
+  i = l .before .loop .i
 
   abbrev p : ℤ
-  p = cond even (pos 0) (pos 1)
+  p = b .args .p
 
-  sized : Sized 8 (2 ^ 32) (cond even f g)
-  sized = chosen-sized even f g (start .pre .0) (start .pre .1)
+  abbrev x : ℤ
+  x = «at» (b .args .f .now) i
 
-  x-is : c .either2 .result ≡ x
-  x-is = let a : SFits w64 («at» f i) = record { sfits = c .before .before .either-arg .given } in let b : SFits w64 («at» g i) = record { sfits = c .before .either-arg2 .given } in
-      (simp (toZ-ofZ, a, b) at (c .either2 .ensures)) ∙ chosen-at even f g i
+  abbrev y : ℤ
+  y = «at» (b .args .a .now) i
 
-  p-is : at-loop .before .either .result ≡ p
-  p-is = at-loop .before .either .ensures
+  fx : SFits w64 x
+  fx = fits-abs x (omega (arith, b .pre .1 .small i))
 
-  fx : SFits w64 (c .either2 .result)
-  fx = record { sfits = c .either2 .ok }
+  f2x : SFits w64 (pos 2 *ℤ x)
+  f2x = fits-mul (pos 2) x 2 (2 ^ 32) (omega arith) (b .pre .1 .small i) (omega arith)
 
-  fp : SFits w64 (at-loop .before .either .result)
-  fp = record { sfits = at-loop .before .either .ok }
+  fy : SFits w64 y
+  fy = fits-abs y (omega (arith, b .pre .2 .small i))
 
-  fx2 : SFits w64 (pos 2 *ℤ c .either2 .result)
-  fx2 = rw x-is (fits-mul (pos 2) x 2 (2 ^ 32) (omega arith) (sized .small i) (omega arith))
+  fpy : SFits w64 (p *ℤ sign y)
+  fpy = fits-mul p (sign y) 1 1 (b .pre .0) (sign-small y) (omega arith)
 
-  fxp : SFits w64 (pos 2 *ℤ c .either2 .result +ℤ at-loop .before .either .result)
-  fxp = subst₂ (λ (y z : ℤ). SFits w64 (pos 2 *ℤ y +ℤ z)) (sym x-is) (sym p-is) (fits-add (pos 2 *ℤ x) p (omega (arith, bit even, abs-mul (pos 2) x, sized .small i)))
+  fe : SFits w64 (pos 2 *ℤ x +ℤ p *ℤ sign y)
+  fe = fits-add (pos 2 *ℤ x) (p *ℤ sign y) (omega (arith, abs-mul (pos 2) x, b .pre .1 .small i, abs-mul-le p (sign y) {m = 1} {n = 1} (b .pre .0) (sign-small y)))
+
+-- the way that was read
+module _ (c : tie.After-sign Inv-loop μ-loop) where
+  abbrev l : tie.In-loop Inv-loop μ-loop
+  l = c .before .before .before
+
+  is : c .sign .result ≡ sign (y l)
+  is = simp (toZ-ofZ, fy l) at (c .sign .ensures)
+
+  fs : SFits w64 (c .sign .result)
+  fs = record { sfits = c .sign .ok }
+
+  fps : SFits w64 (p l *ℤ c .sign .result)
+  fps = subst (λ (z : ℤ). SFits w64 (p l *ℤ z)) (sym is) (fpy l)
+
+  fes : SFits w64 (pos 2 *ℤ x l +ℤ p l *ℤ c .sign .result)
+  fes = subst (λ (z : ℤ). SFits w64 (pos 2 *ℤ x l +ℤ p l *ℤ z)) (sym is) (fe l)
 
 loop-holds : tie.Need-loop-holds Inv-loop μ-loop
 loop-holds c = record { within = omega arith; long = refl; same = refl }
 
-mul-either : tie.Need-mul-either Inv-loop μ-loop
-mul-either c = omega arith
+mul-e : tie.Need-mul-e Inv-loop μ-loop
+mul-e c = omega arith
 
-element-copy-out-either : tie.Need-element-copy-out-either Inv-loop μ-loop
-element-copy-out-either c = omega arith
+element-copy-out-e : tie.Need-element-copy-out-e Inv-loop μ-loop
+element-copy-out-e c = omega arith
 
-mul-either-2 : tie.Need-mul-either-2 Inv-loop μ-loop
-mul-either-2 c = omega arith
+mul-e-2 : tie.Need-mul-e-2 Inv-loop μ-loop
+mul-e-2 c = let l = c .before in simp (toZ-ofZ, fx l) (f2x l)
 
-element-copy-out-either-2 : tie.Need-element-copy-out-either-2 Inv-loop μ-loop
-element-copy-out-either-2 c = omega arith
+mul-sign : tie.Need-mul-sign Inv-loop μ-loop
+mul-sign c = omega arith
 
-either-requires-2 : tie.Need-either-requires-2 Inv-loop μ-loop
-either-requires-2 c κs = search needs
+element-copy-out-sign : tie.Need-element-copy-out-sign Inv-loop μ-loop
+element-copy-out-sign c = omega arith
 
-mul-r : tie.Need-mul-r Inv-loop μ-loop
-mul-r c = simp (toZ-ofZ, fx c) (fx2 c)
+sign-requires : tie.Need-sign-requires Inv-loop μ-loop
+sign-requires c κs = tt
 
-add-r : tie.Need-add-r Inv-loop μ-loop
-add-r c = simp (toZ-ofZ, fx c, fx2 c, fp c) (fxp c)
+mul-e-3 : tie.Need-mul-e-3 Inv-loop μ-loop
+mul-e-3 c = simp (toZ-ofZ, b (l c) .fits .p, fs c) (fps c)
 
-mul-r-2 : tie.Need-mul-r-2 Inv-loop μ-loop
-mul-r-2 c = omega arith
+add-e : tie.Need-add-e Inv-loop μ-loop
+add-e c = simp (toZ-ofZ, fx (l c), f2x (l c), b (l c) .fits .p, fs c, fps c) (fes c)
 
-array-set-from-r : tie.Need-array-set-from-r Inv-loop μ-loop
-array-set-from-r c = omega arith
+mul-e-4 : tie.Need-mul-e-4 Inv-loop μ-loop
+mul-e-4 c = omega arith
+
+array-set-from-e : tie.Need-array-set-from-e Inv-loop μ-loop
+array-set-from-e c = omega arith
 
 add-i : tie.Need-add-i Inv-loop μ-loop
 add-i c = omega arith
@@ -130,12 +115,12 @@ loop-less : tie.Need-loop-less Inv-loop μ-loop
 loop-less c = omega arith
 
 loop-again : tie.Need-loop-again Inv-loop μ-loop
-loop-again c = simp (toZ-ofZ, fx c, fx2 c, fp c, fxp c)
-    (filled-more (wide (even c)) 8 (cond (even c) (f c) (g c)) (sized c .long) (pos 0) _ (ap₂ (λ (y z : ℤ). pos 2 *ℤ y +ℤ z) (x-is c) (p-is c)) (omega arith) (at-loop c .loop .inv))
+loop-again c = let m = l c in let s = b m in let f = wide (p m) (s .args .f .now) (s .args .a .now) in
+    let e : pos 2 *ℤ x m +ℤ p m *ℤ c .sign .result ≡ f (getD (range 0 8) (i m) 0) = ap (λ (z : ℤ). pos 2 *ℤ x m +ℤ p m *ℤ z) (is c) ∙ ap f (sym (range-at (λ (k : ℕ). k) 0 8 (i m) 0 (omega arith) ∙ zero-add (i m))) in
+    simp (toZ-ofZ, fx m, f2x m, s .fits .p, fs c, fps c, fes c) (filled-more f 8 (range 0 8) refl 0 _ e (omega arith) (simp (toZ-ofZ, s .fits .p) at (m .before .loop .inv)))
 
 returns : tie.Need-returns Inv-loop μ-loop
-returns c = let b = c .before .before .before in let e = b .args .even in let f = b .args .f .now in let g = b .args .g .now in
-    filled-all (wide e) 8 (cond e f g) (chosen-sized e f g (b .pre .0) (b .pre .1) .long) (omega arith) (c .before .loop .inv) ∙ chosen-spread e f g
+returns c = let b = c .before .before in filled-all (wide (b .args .p) (b .args .f .now) (b .args .a .now)) 8 (range 0 8) refl (omega arith) (simp (toZ-ofZ, b .fits .p) at (c .before .loop .inv))
 
 pub spread-spec : {M : Type 1} → statement M
 spread-spec =
@@ -143,17 +128,17 @@ spread-spec =
     (tie.spec
     Inv-loop
     μ-loop
-    either-requires
     loop-holds
-    mul-either
-    element-copy-out-either
-    mul-either-2
-    element-copy-out-either-2
-    either-requires-2
-    mul-r
-    add-r
-    mul-r-2
-    array-set-from-r
+    mul-e
+    element-copy-out-e
+    mul-e-2
+    mul-sign
+    element-copy-out-sign
+    sign-requires
+    mul-e-3
+    add-e
+    mul-e-4
+    array-set-from-e
     add-i
     loop-less
     loop-again

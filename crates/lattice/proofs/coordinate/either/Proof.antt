@@ -2,8 +2,8 @@
 use mathlib.Core.Path.{sym, ap}
 use mathlib.Core.Bool.{Bool, cond}
 use mir.Facts.{toZ-ofZ}
-use Rattle.lattice.proofs.point.either.Statement.{statement}
-use Rattle.lattice.proofs.point.either.Tie as tie
+use Rattle.lattice.proofs.coordinate.either.Statement.{statement}
+use Rattle.lattice.proofs.coordinate.either.Tie as tie
 
 returns : tie.Need-returns
 returns c = let s = c .before in simp (toZ-ofZ, s .fits .x) (sym (ap (λ (b : Bool). cond b (s .args .x) (s .args .y)) (c .if1 .taken)))

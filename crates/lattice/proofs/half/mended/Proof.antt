@@ -1,0 +1,80 @@
+-- `mended` reads the mend off the key, field by field.
+use borrow.Author.Needs.{needs}
+use mathlib.Core.Path.{_≡_, _∙_, ap, ap₂}
+use mathlib.Core.Bool.{cond}
+use Prim.Native.Nat.{ℕ, _/_, _%_, _≤_}
+use native.Mathlib.Nat.{div-le-self}
+use native.Mathlib.Omega.{arith}
+use lib.Dec.{ltb}
+use lib.IntN.{ℤ, pos, negsuc, _-ℤ_}
+use mir.Syntax.{w64}
+use mir.Val.{SFits}
+use mir.Facts.{toZ-ofZ}
+use Rattle.integers.specs.Laws.Sizes.{fits-abs, fits-sub}
+use Rattle.lattice.specs.Pass.{mended}
+use Rattle.lattice.proofs.half.mended.Statement.{statement}
+use Rattle.lattice.proofs.half.mended.Tie as tie
+
+either-requires : tie.Need-either-requires
+either-requires c κs = search needs
+
+spot-requires : tie.Need-spot-requires
+spot-requires c κs = search needs
+
+either-requires-2 : tie.Need-either-requires-2
+either-requires-2 c κs = search needs
+
+module _ (c : tie.After-either2) where
+  abbrev b : tie.Start
+  b = c .before .before .before
+
+  abbrev s : ℤ
+  s = b .args .s
+
+  abbrev size : ℤ
+  size = pos (b .args .k / 128)
+
+  size≤ : b .args .k / 128 ≤ 4294967296
+  size≤ = omega (arith, div-le-self (b .args .k) 128, b .pre .1)
+
+  fk : SFits w64 size
+  fk = fits-abs size (omega (arith, size≤))
+
+  fsk : SFits w64 (s -ℤ size)
+  fsk = fits-sub s size (omega (arith, size≤, b .pre .0 .most))
+
+  way : c .before .before .either .result ≡ cond (ltb (b .args .k % 16) 8) (pos 1) (negsuc 0)
+  way = c .before .before .either .ensures
+
+  step : c .either2 .result ≡ cond (b .args .odd) (cond (ltb (b .args .k % 16) 8) (pos 1) (negsuc 0)) (pos 0)
+  step = let f : SFits w64 (c .before .before .either .result) = record { sfits = c .before .before .either .ok } in
+      (simp (toZ-ofZ, f) at (c .either2 .ensures)) ∙ ap (λ (z : ℤ). cond (b .args .odd) z (pos 0)) way
+
+cast-either : tie.Need-cast-either
+cast-either c = fk c
+
+sub-either : tie.Need-sub-either
+sub-either c = simp (toZ-ofZ, b c .fits .s, fk c) (fsk c)
+
+either-requires-3 : tie.Need-either-requires-3
+either-requires-3 c κs = search needs
+
+returns : tie.Need-returns
+unfolding mended
+returns c = let m = c .before in let e : c .either3 .result ≡ cond (b m .args .odd) (s m -ℤ size m) (pos 0) = simp (toZ-ofZ, b m .fits .s, fk m, fsk m) at (c .either3 .ensures) in
+    let f : SFits w64 (m .either2 .result) = record { sfits = m .either2 .ok } in let g : SFits w64 (c .either3 .result) = record { sfits = c .either3 .ok } in
+    simp (toZ-ofZ, f, g)
+    (ap₂ (λ (x y : ℤ). record { place = m .before .spot .result; step = x; cost = y }) (step m) e
+    ∙ ap (λ (n : ℕ). record { place = n; step = mended (s m) (b m .args .k) (b m .args .odd) .step; cost = mended (s m) (b m .args .k) (b m .args .odd) .cost }) (m .before .spot .ensures))
+
+pub mended-spec : {M : Type 1} → statement M
+mended-spec =
+    tie.close
+    (tie.spec
+    either-requires
+    spot-requires
+    either-requires-2
+    cast-either
+    sub-either
+    either-requires-3
+    returns)

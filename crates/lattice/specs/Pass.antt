@@ -1,0 +1,64 @@
+-- One pass over the roundings of a vector, and the choice between the halves by what it has seen. No promise to a user cites these.
+use mathlib.Core.Bool.{Bool, cond}
+use mathlib.Core.List.{List, map}
+use Prim.Native.Nat.{ℕ, zero, suc, _+_, _*_, _-_, _/_, _%_, _^_, _≤_, min, max}
+use lib.Dec.{eqb, ltb}
+use lib.IntN.{ℤ, pos, negsuc, natAbs, _+ℤ_, _-ℤ_, _*ℤ_}
+use lib.Signed.{ltZ}
+use Rattle.integers.specs.Laws.Loops.{range}
+use Rattle.integers.specs.Vectors.{«at»}
+use Rattle.lattice.specs.declared.half.Mend.{Mend}
+use Rattle.lattice.specs.declared.half.Scan.{Scan}
+use Rattle.lattice.specs.declared.point.Choice.{Choice}
+use Rattle.lattice.specs.Doubled.{par}
+use Rattle.lattice.specs.Rounding.{sign, key, spot}
+
+-- one entry more: the rounding f, which leaves r, at the place i
+abbrev pub seen : Scan → ℤ → ℤ → ℕ → Scan
+seen c f r i = record { most = max (c .most) (key i r); least = min (c .least) (key i r); keys = c .keys + key i r; sum = c .sum +ℤ f }
+
+-- what the first n entries of the roundings f, which leave r, show
+unfoldable pub scanned : ℕ → List ℤ → List ℤ → Scan
+scanned zero f r = record { most = key 0 («at» r 0); least = key 0 («at» r 0); keys = 0; sum = pos 0 }
+scanned (suc n) f r = seen (scanned n f r) («at» f n) («at» r n) n
+
+-- what the code takes of it
+pub record Ranged (s : ℤ) (c : Scan) : Type 0 where
+  pub most : c .most ≤ 2 ^ 32
+  pub least : c .least ≤ 128 * natAbs s + 15
+  pub keys : c .keys ≤ 2 ^ 32
+  pub sum : natAbs (c .sum) ≤ 2 ^ 40
+
+-- how a half is mended whose greatest key is k: where its sum is odd, a step at the key's entry; the cost in units of 4s
+unfoldable pub mended : ℤ → ℕ → Bool → Mend
+mended s k odd = record { place = spot k; step = cond odd (cond (ltb (k % 16) 8) (pos 1) (negsuc 0)) (pos 0); cost = cond odd (s -ℤ pos (k / 128)) (pos 0) }
+
+pub record Small (m : Mend) : Type 0 where
+  pub step : natAbs (m .step) ≤ 1
+  pub cost : natAbs (m .cost) ≤ 2 ^ 40
+
+-- the step at the first entry
+abbrev pub first : Mend → ℤ
+first m = cond (eqb (m .place) 0) (m .step) (pos 0)
+
+-- above 0 where the even half, mended by x, comes before the odd one, mended by y: R is the sum of what is left, up to sign, and w the way of the first entry
+unfoldable pub lead : ℤ → ℤ → Mend → Mend → ℤ → ℤ
+lead s R x y w = cond (ltZ (pos 2 *ℤ first x) (w +ℤ pos 2 *ℤ first y)) (pos 1) (pos 0) -ℤ pos 2 *ℤ (R -ℤ pos 4 *ℤ s +ℤ pos 2 *ℤ (x .cost -ℤ y .cost))
+
+-- the mends of the even half and of the odd one: where the even half has the key k, the odd one has 128 s + 15 - k
+abbrev pub evenMend : ℤ → Scan → Mend
+evenMend s c = mended s (c .most) (eqb (par (c .sum)) 1)
+
+abbrev pub oddMend : ℤ → Scan → Mend
+oddMend s c = mended s (128 * natAbs s + 15 - c .least) (eqb (par (c .sum +ℤ pos (c .keys))) 1)
+
+-- the choice by them
+abbrev pub choose : Bool → Mend → Mend → Choice
+choose even x y = record { parity = cond even (pos 0) (pos 1); place = cond even (x .place) (y .place); step = cond even (x .step) (y .step) }
+
+unfoldable pub chosen : ℤ → Scan → ℤ → Choice
+chosen s c w = choose (ltZ (pos 0) (lead s (pos (c .keys / 128)) (evenMend s c) (oddMend s c) w)) (evenMend s c) (oddMend s c)
+
+-- the half of parity p, doubled and not yet mended: twice f, and p times the step on
+abbrev pub spreadBy : ℤ → List ℤ → List ℤ → List ℤ
+spreadBy p f r = map (λ (i : ℕ). pos 2 *ℤ «at» f i +ℤ p *ℤ sign («at» r i)) (range 0 8)
