@@ -29,7 +29,7 @@ one-step = byD₂ _ λ _ _ _ _. simp ints (omega arith)
 
 -- a sum that starts at q^i is q^i times the one that starts at 1
 module _ (q : ℕ) (f : List ℕ → ℤ) where
-  layerSum-up : (i : ℕ) (l : List (List ℕ)) → layerSum q (suc i) f l ≡ pos q *ℤ layerSum q i f l
+  pub layerSum-up : (i : ℕ) (l : List (List ℕ)) → layerSum q (suc i) f l ≡ pos q *ℤ layerSum q i f l
   layerSum-up i [] = none-step (pos q)
   layerSum-up i (ds ∷ l) = ap₂ (λ (w : ℕ) (t : ℤ). pos w *ℤ f ds +ℤ t) (pow-succ' q i) (layerSum-up (suc i) l) ∙ up-step q (q ^ i) (f ds) (layerSum q (suc i) f l)
 

@@ -1,0 +1,10 @@
+-- Proved facts of the tables.
+pub mod Counting
+pub mod Entries
+pub mod Sizes
+pub mod Sums
+pub mod Rows
+pub mod Filling
+pub mod Scoring
+pub mod Same
+pub mod Theorems

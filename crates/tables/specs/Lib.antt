@@ -1,0 +1,5 @@
+-- Tables of scores. Definitions stand here; `Laws` holds what is proved of them.
+pub mod Tables
+pub mod Filling
+pub mod Scoring
+pub mod Laws

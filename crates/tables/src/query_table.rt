@@ -1,0 +1,194 @@
+// Filling the query table: the sums of X_i·e_i over every layer point, block after block (01, Scores).
+ghost use mathlib.Core.Path.{_≡_};
+ghost use mathlib.Core.List.{[], _∷_, _++_, map};
+ghost use Prim.Native.Nat.{_*_, _/_, _^_, _≤_};
+ghost use lib.IntN.{pos, natAbs};
+ghost use lib.ListN.{length, drop};
+ghost use Rattle.integers.specs.Vectors.{Sized};
+ghost use Rattle.layers.specs.Digits.{joined, cut};
+ghost use Rattle.layers.specs.Sizes.{Base};
+ghost use Rattle.layers.specs.Table.{TableFor};
+ghost use Rattle.records.specs.Vectors.{unitsHour, fvecsHour, UnitsTaken};
+ghost use Rattle.refusals.specs.declared.Verdict.the-variants.{Accepted};
+ghost use Rattle.refusals.specs.Answers.{valued, written};
+ghost use Rattle.refusals.specs.Laws.Allowed.{Allowed};
+ghost use Rattle.refusals.specs.Settings.{checkSettings};
+ghost use Rattle.refusals.specs.Verdicts.{firstRefusal};
+ghost use Rattle.tables.specs.Filling.{checkTable, checkEntries, queryTableAsked, checkQueryTable, queryFilled, queryTableRoom};
+ghost use Rattle.tables.specs.Tables.{queryMost, partSize, queryPart, queryTable};
+use crate::counting;
+use crate::parts;
+use lattice::lent;
+use layers::points;
+use layers::table;
+use readings::words;
+use records::frames;
+use records::vectors;
+use refusals::Answer;
+use refusals::Refusal;
+use refusals::Verdict;
+use refusals::settings;
+use refusals::settings::Settings;
+use scores::hours;
+use scores::inner;
+
+// The greatest q that the table is for.
+const QUERY_MOST: usize = 4;
+
+// One block's part of the table: for each layer point in turn the sum of X_i·e_i.
+fn fill_part(t: &[i8], x: &[i32], q: i64, part: &mut [i32])
+    requires { ⌜ TableFor (natAbs q) (now t) × Base q × (natAbs q ≤ queryMost) × Sized 8 (2 ^ 24) (now x) × (length (now part) ≡ partSize (natAbs q)) ⌝ }
+    ensures { λ _. ⌜ now (part .exit) ≡ queryPart (natAbs q) (now (x .entry)) ⌝ }
+{
+    let w = lent::widen(x);
+    let values = q as u8;
+    let mut ds: [u8; 8] = [0; 8];
+    let mut i: usize = 0;
+    while i < part.len() {
+        let e = points::layer_point(t, &ds, q);
+        part[i] = inner::dot(&w, &e) as i32;
+        counting::count_up(&mut ds, values);
+        i = i + 1;
+    }
+}
+
+// Each of k blocks its own part of the lent table; the entries past the last stay as found.
+fn fill_parts(t: &[i8], x: &[i32], q: i64, k: usize, entries: &mut [i32])
+    requires { ⌜ TableFor (natAbs q) (now t) × Base q × (natAbs q ≤ queryMost) × Sized (8 * k) (2 ^ 24) (now x) × (partSize (natAbs q) * k ≤ length (now entries)) × (k ≤ 64) ⌝ }
+    ensures { λ _. ⌜ now (entries .exit) ≡ joined (map (queryPart (natAbs q)) (cut 8 k (now (x .entry)))) ++ drop (partSize (natAbs q) * k) (now (entries .entry)) ⌝ }
+{
+    let size = parts::part_size(q);
+    let mut i: usize = 0;
+    while i < k {
+        let at = 8 * i;
+        let end = at + 8;
+        let from = size * i;
+        let to = from + size;
+        fill_part(t, &x[at..end], q, &mut entries[from..to]);
+        i = i + 1;
+    }
+}
+
+// The same, having the fixed table of layer points itself, once for all blocks.
+pub fn fill_blocks(x: &[i32], q: i64, k: usize, entries: &mut [i32])
+    requires { ⌜ Base q × (natAbs q ≤ queryMost) × Sized (8 * k) (2 ^ 24) (now x) × (partSize (natAbs q) * k ≤ length (now entries)) × (k ≤ 64) ⌝ }
+    ensures { λ _. ⌜ now (entries .exit) ≡ joined (map (queryPart (natAbs q)) (cut 8 k (now (x .entry)))) ++ drop (partSize (natAbs q) * k) (now (entries .entry)) ⌝ }
+{
+    if q == 2 {
+        fill_parts(&table::layer_points(), x, q, k, entries)
+    } else {
+        fill_parts(&[0; 1], x, q, k, entries)
+    }
+}
+
+// Refusals 1, and 8 where q is past 4.
+fn check_q(s: Settings) -> Verdict
+    ensures { λ r. ⌜ r ≡ firstRefusal (checkSettings s ∷ checkTable queryMost s ∷ []) ⌝ }
+{
+    match settings::check_settings(s) {
+        Verdict::Refused(r) => Verdict::Refused(r),
+        Verdict::Accepted => check_table(s),
+    }
+}
+
+// Refusal 8 where q is past 4.
+pub(crate) fn check_table(s: Settings) -> Verdict
+    requires { ⌜ Allowed (s .q) (s .m) ⌝ }
+    ensures { λ r. ⌜ r ≡ checkTable queryMost s ⌝ }
+{
+    if settings::digit_values(s) <= QUERY_MOST {
+        Verdict::Accepted
+    } else {
+        Verdict::Refused(Refusal::Table)
+    }
+}
+
+// Refusal 3 where the lent table has fewer than K·q^8 entries.
+pub(crate) fn check_entries(s: Settings, k: usize, room: usize) -> Verdict
+    requires { ⌜ Allowed (s .q) (s .m) × (natAbs (s .q) ≤ queryMost) × (k ≤ 64) ⌝ }
+    ensures { λ r. ⌜ r ≡ checkEntries (partSize (natAbs (s .q)) * k) room ⌝ }
+{
+    if parts::part_size(settings::base(s)) * k <= room {
+        Verdict::Accepted
+    } else {
+        Verdict::Refused(Refusal::Size(2))
+    }
+}
+
+// All that is checked of a query in whole units: refusals 1, 8, 3 for its count and for the table, and 5.
+fn check_units_query(s: Settings, x: &[i32], room: usize) -> Verdict
+    ensures { λ r. ⌜ r ≡ checkQueryTable s (unitsHour (now (x .entry))) room ⌝ }
+{
+    match check_q(s) {
+        Verdict::Refused(r) => Verdict::Refused(r),
+        Verdict::Accepted => {
+            if frames::whole_blocks(x.len(), 8, 1, frames::BLOCKS_MOST) {
+                match check_entries(s, x.len() / 8, room) {
+                    Verdict::Refused(r) => Verdict::Refused(r),
+                    Verdict::Accepted => vectors::check_units(x),
+                }
+            } else {
+                Verdict::Refused(Refusal::Size(0))
+            }
+        }
+    }
+}
+
+// All that is checked of a query that is an fvecs record before its readings are taken: refusals 1, 8, 10 and 3.
+fn check_fvecs_query(s: Settings, query: &[u8], room: usize) -> Verdict
+    ensures { λ r. ⌜ r ≡ queryTableAsked s (fvecsHour (now (query .entry))) room ⌝ }
+{
+    match check_q(s) {
+        Verdict::Refused(r) => Verdict::Refused(r),
+        Verdict::Accepted => {
+            if frames::good_record(query, 4, 8, 1, frames::BLOCKS_MOST) {
+                check_entries(s, words::word_at(query, 0) as usize / 8, room)
+            } else {
+                Verdict::Refused(Refusal::Record(0))
+            }
+        }
+    }
+}
+
+// The core on X: its table at the front of the lent entries; the value is how many entries these are.
+fn fill_units(x: &[i32], q: i64, entries: &mut [i32]) -> Answer
+    requires { ⌜ Base q × (natAbs q ≤ queryMost) × UnitsTaken (now x) × (partSize (natAbs q) * (length (now x) / 8) ≤ length (now entries)) ⌝ }
+    ensures answer { λ r. ⌜ r ≡ valued Accepted (pos (partSize (natAbs q) * (length (now (x .entry)) / 8))) ⌝ }
+    ensures room { λ _. ⌜ now (entries .exit) ≡ written Accepted (queryTable (natAbs q) (now (x .entry))) (now (entries .entry)) ⌝ }
+{
+    let k = x.len() / 8;
+    fill_blocks(x, q, k, entries);
+    Answer {
+        verdict: Verdict::Accepted,
+        value: (parts::part_size(q) * k) as i64,
+    }
+}
+
+// Fills the front of the lent table for a query in whole units; its value is how many entries that are.
+pub fn fill_query_table_units(s: Settings, x: &[i32], entries: &mut [i32]) -> Answer
+    ensures answer { λ r. ⌜ r ≡ queryFilled s (unitsHour (now (x .entry))) (length (now (entries .entry))) ⌝ }
+    ensures room { λ _. ⌜ now (entries .exit) ≡ queryTableRoom s (unitsHour (now (x .entry))) (now (entries .entry)) ⌝ }
+{
+    match check_units_query(s, x, entries.len()) {
+        Verdict::Refused(r) => refusals::refused(r),
+        Verdict::Accepted => fill_units(x, settings::base(s), entries),
+    }
+}
+
+// Fills it for a query that is an fvecs record. All its readings are taken before the first entry is written.
+pub fn fill_query_table(s: Settings, query: &[u8], entries: &mut [i32]) -> Answer
+    ensures answer { λ r. ⌜ r ≡ queryFilled s (fvecsHour (now (query .entry))) (length (now (entries .entry))) ⌝ }
+    ensures room { λ _. ⌜ now (entries .exit) ≡ queryTableRoom s (fvecsHour (now (query .entry))) (now (entries .entry)) ⌝ }
+{
+    match check_fvecs_query(s, query, entries.len()) {
+        Verdict::Refused(r) => refusals::refused(r),
+        Verdict::Accepted => {
+            let n = words::word_at(query, 0) as usize;
+            let mut x: [i32; hours::READINGS_MOST] = [0; hours::READINGS_MOST];
+            match vectors::take_readings(query, n, &mut x) {
+                Verdict::Refused(r) => refusals::refused(r),
+                Verdict::Accepted => fill_units(&x[0..n], settings::base(s), entries),
+            }
+        }
+    }
+}
