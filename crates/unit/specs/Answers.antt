@@ -8,7 +8,9 @@ use Rattle.refusals.specs.declared.settings.Settings.{Settings}
 use Rattle.refusals.specs.Verdicts.{numberOf, placeOf}
 use Rattle.lattice.specs.declared.PointAnswer.{PointAnswer}
 use Rattle.reports.specs.declared.ReportAnswer.{ReportAnswer}
+use Rattle.stores.specs.declared.HourAnswer.{HourAnswer}
 use Rattle.unit.specs.declared.answers.EkAnswer.{EkAnswer}
+use Rattle.unit.specs.declared.answers.EkHour.{EkHour}
 use Rattle.unit.specs.declared.answers.EkPoint.{EkPoint}
 use Rattle.unit.specs.declared.answers.EkReading.{EkReading}
 use Rattle.unit.specs.declared.answers.EkReportAnswer.{EkReportAnswer}
@@ -30,6 +32,10 @@ pointOut a = record { number = numberOf (a .verdict); place = placeOf (a .verdic
 -- an answer whose value is one number
 abbrev pub answerOut : Answer → EkAnswer
 answerOut a = record { number = numberOf (a .verdict); place = placeOf (a .verdict); value = a .value }
+
+-- the best hour
+abbrev pub hourOut : HourAnswer → EkHour
+hourOut a = record { number = numberOf (a .verdict); place = placeOf (a .verdict); hour = a .hour; score = a .score }
 
 -- one reading of a report, and a report
 abbrev pub readingOut : Reading → EkReading

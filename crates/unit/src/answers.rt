@@ -2,13 +2,14 @@
 ghost use mathlib.Core.Path.{_≡_};
 ghost use mathlib.Core.List.{map};
 ghost use lib.ListN.{length};
-ghost use Rattle.unit.specs.Answers.{settings, takenOut, pointOut, answerOut, readingOut, reportOut};
+ghost use Rattle.unit.specs.Answers.{settings, takenOut, pointOut, answerOut, hourOut, readingOut, reportOut};
 use lattice::PointAnswer;
 use readings::Reading;
 use readings::Taken;
 use refusals::Answer;
 use refusals::settings::Settings;
 use reports::ReportAnswer;
+use stores::HourAnswer;
 
 // q and M.
 #[repr(C)]
@@ -38,6 +39,15 @@ pub struct EkAnswer {
     pub number: u64,
     pub place: u64,
     pub value: i64,
+}
+
+// The best hour: number 0, a stored record's number and its score, or a refusal's number and place and zeros.
+#[repr(C)]
+pub struct EkHour {
+    pub number: u64,
+    pub place: u64,
+    pub hour: u64,
+    pub score: i64,
 }
 
 // One reading of a report.
@@ -102,6 +112,19 @@ pub(crate) fn answer_out(a: Answer) -> EkAnswer
         number: refusals::number_of(v) as u64,
         place: refusals::place_of(v) as u64,
         value: a.value,
+    }
+}
+
+// The best hour as C takes it.
+pub(crate) fn hour_out(a: HourAnswer) -> EkHour
+    ensures { λ r. ⌜ r ≡ hourOut a ⌝ }
+{
+    let v = a.verdict;
+    EkHour {
+        number: refusals::number_of(v) as u64,
+        place: refusals::place_of(v) as u64,
+        hour: a.hour as u64,
+        score: a.score,
     }
 }
 

@@ -5,11 +5,13 @@ ghost use Rattle.decoding.specs.Decode.{decoded, decodedRoom};
 ghost use Rattle.encoding.specs.Encode.{encoded, encodedRoom};
 ghost use Rattle.records.specs.Vectors.{unitsHour, fvecsHour};
 ghost use Rattle.scores.specs.Scores.{pairScore, queryScore};
+ghost use Rattle.stores.specs.Stores.{bestHour};
 ghost use Rattle.tables.specs.Filling.{pairFilled, pairTableRoom, queryFilled, queryTableRoom};
 ghost use Rattle.tables.specs.Scoring.{pairScoreBy, queryScoreBy};
-ghost use Rattle.unit.specs.Answers.{settings, answerOut};
+ghost use Rattle.unit.specs.Answers.{settings, answerOut, hourOut};
 use crate::answers;
 use crate::answers::EkAnswer;
+use crate::answers::EkHour;
 use crate::answers::EkSettings;
 
 // Codes an hour that is an fvecs record as a bvecs record at the front of the lent bytes (01, Bytes).
@@ -136,5 +138,23 @@ pub extern "C" fn ek_query_score_by_table(
         steps,
         code,
         table,
+    ))
+}
+
+// The best hour of a store for an fvecs record.
+#[no_mangle]
+pub extern "C" fn ek_best_hour(
+    s: EkSettings,
+    steps: &[i32],
+    query: &[u8],
+    store: &[u8],
+) -> EkHour
+    ensures { λ r. ⌜ r ≡ hourOut (bestHour (settings s) (now (steps .entry)) (fvecsHour (now (query .entry))) (now (store .entry))) ⌝ }
+{
+    answers::hour_out(stores::search::best_hour(
+        answers::settings_in(s),
+        steps,
+        query,
+        store,
     ))
 }

@@ -1,0 +1,3 @@
+-- Stores of code records. Definitions stand here; `Laws` holds what is proved of them.
+pub mod Stores
+pub mod Laws
