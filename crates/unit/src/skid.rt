@@ -143,18 +143,8 @@ pub extern "C" fn ek_query_score_by_table(
 
 // The best hour of a store for an fvecs record.
 #[no_mangle]
-pub extern "C" fn ek_best_hour(
-    s: EkSettings,
-    steps: &[i32],
-    query: &[u8],
-    store: &[u8],
-) -> EkHour
+pub extern "C" fn ek_best_hour(s: EkSettings, steps: &[i32], query: &[u8], store: &[u8]) -> EkHour
     ensures { λ r. ⌜ r ≡ hourOut (bestHour (settings s) (now (steps .entry)) (fvecsHour (now (query .entry))) (now (store .entry))) ⌝ }
 {
-    answers::hour_out(stores::search::best_hour(
-        answers::settings_in(s),
-        steps,
-        query,
-        store,
-    ))
+    answers::hour_out(stores::search::best_hour(answers::settings_in(s), steps, query, store))
 }

@@ -15,7 +15,7 @@ place-of-requires : tie.Need-place-of-requires
 place-of-requires c κs = search needs
 
 returns : tie.Need-returns
-returns c = let p = c .before in let a = p .before .before .args .a in let fits : SFits w64 (a .score) = record { sfits = c .struct-told .given .1 .0 .1 } in
+returns c = let p = c .before in let a = p .before .before .args .a in let fits : SFits w64 (a .score) = record { sfits = c .struct-told .given .1 .1 .0 .1 } in
     simp (toZ-ofZ, fits) (ap₂ (λ (n p : ℕ). record { number = n; place = p; hour = a .hour; score = a .score }) (p .before .number-of .ensures) (p .place-of .ensures))
 
 pub hour-out-spec : {M : Type 1} → statement M
