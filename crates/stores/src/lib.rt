@@ -1,6 +1,7 @@
 // The best hour: the greatest query score over the records of a store (01, Scores).
 pub mod checks;
 pub mod search;
+pub mod tabled;
 
 ghost use mathlib.Core.Path.{_≡_};
 ghost use Rattle.refusals.specs.declared.Verdict.the-variants.{Accepted, Refused};

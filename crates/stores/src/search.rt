@@ -9,6 +9,7 @@ ghost use Rattle.records.specs.Codes.{Coder};
 ghost use Rattle.records.specs.Laws.Asked.{CoderTaken, RecordTaken};
 ghost use Rattle.records.specs.Vectors.{unitsHour, fvecsHour, UnitsTaken};
 ghost use Rattle.scores.specs.Scores.{queryTotal};
+ghost use Rattle.stores.specs.Tabled.{LookUp};
 ghost use Rattle.stores.specs.Stores.{StoreTaken, bestIn, checkStore, found, bestHour};
 use crate::Best;
 use crate::HourAnswer;
@@ -20,45 +21,80 @@ use refusals::settings;
 use refusals::settings::Settings;
 use scores::hours;
 use scores::query;
+use tables::query_score;
 
-// The score of readings X with one record.
-fn record_total(t: &[i8], steps: &[i32], x: &[i32], code: &[u8], q: i64, m: usize, k: usize) -> i64
-    requires { ⌜ TableFor (natAbs q) (now t) × Coder q m (now steps) × Sized (8 * k) (2 ^ 24) (now x) × RecordTaken (length (now steps)) (natAbs q) m k k (now code) × (k ≤ 64) ⌝ }
+// The score of readings X with one record: looked up where entries are lent, and else summed from its points.
+fn record_total(
+    t: &[i8],
+    entries: &[i32],
+    steps: &[i32],
+    x: &[i32],
+    code: &[u8],
+    q: i64,
+    m: usize,
+    k: usize,
+) -> i64
+    requires { ⌜ TableFor (natAbs q) (now t) × LookUp (natAbs q) (now x) (now entries) × Coder q m (now steps) × Sized (8 * k) (2 ^ 24) (now x) × RecordTaken (length (now steps)) (natAbs q) m k k (now code) × (k ≤ 64) ⌝ }
     ensures { λ r. ⌜ r ≡ queryTotal (natAbs q) m (now (steps .entry)) (now (x .entry)) (now (code .entry)) ⌝ }
 {
-    query::query_total(t, steps, x, &code[4..], q, m, k)
+    if entries.len() == 0 {
+        query::query_total(t, steps, x, &code[4..], q, m, k)
+    } else {
+        query_score::query_total_by(entries, steps, &code[4..], q, m, k)
+    }
 }
 
 // The best of the store's records, each of k blocks, one after the other.
-fn best_of(t: &[i8], steps: &[i32], x: &[i32], store: &[u8], q: i64, m: usize, k: usize) -> Best
-    requires { ⌜ TableFor (natAbs q) (now t) × Coder q m (now steps) × Sized (8 * k) (2 ^ 24) (now x) × StoreTaken (length (now steps)) (natAbs q) m k (now store) × (k ≤ 64) ⌝ }
+fn best_of(
+    t: &[i8],
+    entries: &[i32],
+    steps: &[i32],
+    x: &[i32],
+    store: &[u8],
+    q: i64,
+    m: usize,
+    k: usize,
+) -> Best
+    requires { ⌜ TableFor (natAbs q) (now t) × LookUp (natAbs q) (now x) (now entries) × Coder q m (now steps) × Sized (8 * k) (2 ^ 24) (now x) × StoreTaken (length (now steps)) (natAbs q) m k (now store) × (k ≤ 64) ⌝ }
     ensures { λ r. ⌜ r ≡ bestIn (natAbs q) m (now (steps .entry)) (now (x .entry)) k (now (store .entry)) ⌝ }
 {
     let n = checks::code_length(m, k);
     let count = store.len() / n;
     let mut best = Best {
         hour: 0,
-        score: record_total(t, steps, x, &store[0..n], q, m, k),
+        score: record_total(t, entries, steps, x, &store[0..n], q, m, k),
     };
     let mut i: usize = 1;
     while i < count {
         let at = n * i;
         let end = at + n;
-        best = crate::better(best, i, record_total(t, steps, x, &store[at..end], q, m, k));
+        best = crate::better(
+            best,
+            i,
+            record_total(t, entries, steps, x, &store[at..end], q, m, k),
+        );
         i = i + 1;
     }
     best
 }
 
-// The same, having the table itself, once for all records.
-fn best_body(steps: &[i32], x: &[i32], store: &[u8], q: i64, m: usize, k: usize) -> Best
-    requires { ⌜ Coder q m (now steps) × Sized (8 * k) (2 ^ 24) (now x) × StoreTaken (length (now steps)) (natAbs q) m k (now store) × (k ≤ 64) ⌝ }
+// The same, having the fixed table of layer points itself, once for all records.
+pub(crate) fn best_body(
+    entries: &[i32],
+    steps: &[i32],
+    x: &[i32],
+    store: &[u8],
+    q: i64,
+    m: usize,
+    k: usize,
+) -> Best
+    requires { ⌜ LookUp (natAbs q) (now x) (now entries) × Coder q m (now steps) × Sized (8 * k) (2 ^ 24) (now x) × StoreTaken (length (now steps)) (natAbs q) m k (now store) × (k ≤ 64) ⌝ }
     ensures { λ r. ⌜ r ≡ bestIn (natAbs q) m (now (steps .entry)) (now (x .entry)) k (now (store .entry)) ⌝ }
 {
     if q == 2 {
-        best_of(&table::layer_points(), steps, x, store, q, m, k)
+        best_of(&table::layer_points(), entries, steps, x, store, q, m, k)
     } else {
-        best_of(&[0; 1], steps, x, store, q, m, k)
+        best_of(&[0; 1], entries, steps, x, store, q, m, k)
     }
 }
 
@@ -72,7 +108,7 @@ fn search_units(s: Settings, steps: &[i32], x: &[i32], store: &[u8]) -> HourAnsw
     match checks::check_store(store, steps.len(), settings::digit_values(s), m, k) {
         Verdict::Refused(r) => crate::no_hour(r),
         Verdict::Accepted => {
-            crate::hour_found(best_body(steps, x, store, settings::base(s), m, k))
+            crate::hour_found(best_body(&x[0..0], steps, x, store, settings::base(s), m, k))
         }
     }
 }

@@ -37,7 +37,11 @@ pairTableRoom c out = written (checkPairTable c (length out)) pairTable out
 
 -- ---- the query table
 
--- settings; q; the query's count; the table's length, K·q^8
+-- the query's count; the table's length, K·q^8
+abbrev pub lentAsked : Settings → Hour → ℕ → Verdict
+lentAsked c h room = firstRefusal (h .frame ∷ checkEntries (partSize (natAbs (c .q)) * blocksOf h) room ∷ [])
+
+-- settings; q; the query's count; the table's length
 unfoldable pub queryTableAsked : Settings → Hour → ℕ → Verdict
 queryTableAsked c h room = firstRefusal (checkSettings c ∷ checkTable queryMost c ∷ h .frame ∷ checkEntries (partSize (natAbs (c .q)) * blocksOf h) room ∷ [])
 

@@ -8,13 +8,13 @@ ghost use Rattle.integers.specs.Vectors.{Sized};
 ghost use Rattle.layers.specs.Digits.{joined, cut};
 ghost use Rattle.layers.specs.Sizes.{Base};
 ghost use Rattle.layers.specs.Table.{TableFor};
-ghost use Rattle.records.specs.Vectors.{unitsHour, fvecsHour, UnitsTaken};
+ghost use Rattle.records.specs.Vectors.{unitsHour, fvecsHour, checkReadings, UnitsTaken};
 ghost use Rattle.refusals.specs.declared.Verdict.the-variants.{Accepted};
 ghost use Rattle.refusals.specs.Answers.{valued, written};
 ghost use Rattle.refusals.specs.Laws.Allowed.{Allowed};
 ghost use Rattle.refusals.specs.Settings.{checkSettings};
 ghost use Rattle.refusals.specs.Verdicts.{firstRefusal};
-ghost use Rattle.tables.specs.Filling.{checkTable, checkEntries, queryTableAsked, checkQueryTable, queryFilled, queryTableRoom};
+ghost use Rattle.tables.specs.Filling.{checkTable, checkEntries, lentAsked, queryTableAsked, checkQueryTable, queryFilled, queryTableRoom};
 ghost use Rattle.tables.specs.Tables.{queryMost, partSize, queryPart, queryTable};
 use crate::counting;
 use crate::parts;
@@ -92,7 +92,7 @@ fn check_q(s: Settings) -> Verdict
 }
 
 // Refusal 8 where q is past 4.
-pub(crate) fn check_table(s: Settings) -> Verdict
+pub fn check_table(s: Settings) -> Verdict
     requires { ⌜ Allowed (s .q) (s .m) ⌝ }
     ensures { λ r. ⌜ r ≡ checkTable queryMost s ⌝ }
 {
@@ -115,38 +115,50 @@ pub(crate) fn check_entries(s: Settings, k: usize, room: usize) -> Verdict
     }
 }
 
-// All that is checked of a query in whole units: refusals 1, 8, 3 for its count and for the table, and 5.
+// Of a query in whole units and the lent table: refusal 3 for its count, then for the table, then 5.
+pub fn check_units_lent(s: Settings, x: &[i32], room: usize) -> Verdict
+    requires { ⌜ Allowed (s .q) (s .m) × (natAbs (s .q) ≤ queryMost) ⌝ }
+    ensures { λ r. ⌜ r ≡ firstRefusal (lentAsked s (unitsHour (now (x .entry))) room ∷ checkReadings 0 (unitsHour (now (x .entry)) .readings) ∷ []) ⌝ }
+{
+    if frames::whole_blocks(x.len(), 8, 1, frames::BLOCKS_MOST) {
+        match check_entries(s, x.len() / 8, room) {
+            Verdict::Refused(r) => Verdict::Refused(r),
+            Verdict::Accepted => vectors::check_units(x),
+        }
+    } else {
+        Verdict::Refused(Refusal::Size(0))
+    }
+}
+
+// Of a query that is an fvecs record and the lent table, before its readings are taken: refusal 10, then 3.
+pub fn check_fvecs_lent(s: Settings, query: &[u8], room: usize) -> Verdict
+    requires { ⌜ Allowed (s .q) (s .m) × (natAbs (s .q) ≤ queryMost) ⌝ }
+    ensures { λ r. ⌜ r ≡ lentAsked s (fvecsHour (now (query .entry))) room ⌝ }
+{
+    if frames::good_record(query, 4, 8, 1, frames::BLOCKS_MOST) {
+        check_entries(s, words::word_at(query, 0) as usize / 8, room)
+    } else {
+        Verdict::Refused(Refusal::Record(0))
+    }
+}
+
+// All that is checked of a query in whole units: refusals 1 and 8, then 3 for its count and for the table, and 5.
 fn check_units_query(s: Settings, x: &[i32], room: usize) -> Verdict
     ensures { λ r. ⌜ r ≡ checkQueryTable s (unitsHour (now (x .entry))) room ⌝ }
 {
     match check_q(s) {
         Verdict::Refused(r) => Verdict::Refused(r),
-        Verdict::Accepted => {
-            if frames::whole_blocks(x.len(), 8, 1, frames::BLOCKS_MOST) {
-                match check_entries(s, x.len() / 8, room) {
-                    Verdict::Refused(r) => Verdict::Refused(r),
-                    Verdict::Accepted => vectors::check_units(x),
-                }
-            } else {
-                Verdict::Refused(Refusal::Size(0))
-            }
-        }
+        Verdict::Accepted => check_units_lent(s, x, room),
     }
 }
 
-// All that is checked of a query that is an fvecs record before its readings are taken: refusals 1, 8, 10 and 3.
+// All that is checked of a query that is an fvecs record before its readings are taken: refusals 1 and 8, then 10 and 3.
 fn check_fvecs_query(s: Settings, query: &[u8], room: usize) -> Verdict
     ensures { λ r. ⌜ r ≡ queryTableAsked s (fvecsHour (now (query .entry))) room ⌝ }
 {
     match check_q(s) {
         Verdict::Refused(r) => Verdict::Refused(r),
-        Verdict::Accepted => {
-            if frames::good_record(query, 4, 8, 1, frames::BLOCKS_MOST) {
-                check_entries(s, words::word_at(query, 0) as usize / 8, room)
-            } else {
-                Verdict::Refused(Refusal::Record(0))
-            }
-        }
+        Verdict::Accepted => check_fvecs_lent(s, query, room),
     }
 }
 

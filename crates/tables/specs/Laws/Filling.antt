@@ -1,6 +1,6 @@
 -- The order of filling, and what it says that a filling was accepted.
-use mathlib.Core.Path.{_≡_, sym, _∙_, ap, ap₂}
-use mathlib.Core.List.{List, [], _∷_}
+use mathlib.Core.Path.{_≡_, refl, sym, _∙_, ap, ap₂}
+use mathlib.Core.List.{List, [], _∷_, _++_}
 use Prim.Native.Nat.{ℕ, _*_, _/_, _≤_}
 use borrow.Author.Tests.{leb-true}
 use lib.IntN.{ℤ, pos, natAbs}
@@ -21,8 +21,14 @@ use Rattle.refusals.specs.Laws.Verdicts.{unless-accepted, first-accepted, first
 use Rattle.refusals.specs.Limits.{blocksMost}
 use Rattle.refusals.specs.Settings.{checkSettings}
 use Rattle.refusals.specs.Verdicts.{firstRefusal}
-use Rattle.tables.specs.Filling.{checkTable, checkEntries, checkPairTable, queryTableAsked, checkQueryTable, queryFilled, queryTableRoom}
+use Rattle.tables.specs.Filling.{checkTable, checkEntries, checkPairTable, lentAsked, queryTableAsked, checkQueryTable, queryFilled, queryTableRoom}
 use Rattle.tables.specs.Tables.{pairMost, queryMost, pairSize, partSize, queryTable}
+
+-- checks that stand together may be made as one
+pub first-group : (a b c : List Verdict) → firstRefusal (a ++ (b ++ c)) ≡ firstRefusal (a ++ (firstRefusal b ∷ c))
+first-group [] b c = first-append b c
+first-group (Accepted ∷ a) b c = first-group a b c
+first-group (Refused r ∷ a) b c = refl
 
 -- ---- one check
 
@@ -70,12 +76,10 @@ module _ (c : Settings) where
     abbrev readings : Verdict
     readings = checkReadings 0 (h .readings)
 
-    -- these, the count, the table's length
-    pub asked-is : (v f w : Verdict) → firstRefusal (checkSettings c ∷ checkTable queryMost c ∷ []) ≡ v → h .frame ≡ f → long ≡ w → queryTableAsked c h room ≡ firstRefusal (v ∷ f ∷ w ∷ [])
+    -- these, then what is lent
+    pub asked-is : (v : Verdict) → firstRefusal (checkSettings c ∷ checkTable queryMost c ∷ []) ≡ v → queryTableAsked c h room ≡ firstRefusal (v ∷ lentAsked c h room ∷ [])
     unfolding queryTableAsked
-    asked-is v f w d e g =
-        first-append (checkSettings c ∷ checkTable queryMost c ∷ []) (h .frame ∷ long ∷ [])
-        ∙ ap (λ (v : Verdict). firstRefusal (v ∷ h .frame ∷ long ∷ [])) d ∙ ap₂ (λ (f w : Verdict). firstRefusal (v ∷ f ∷ w ∷ [])) e g
+    asked-is v d = first-append (checkSettings c ∷ checkTable queryMost c ∷ []) (h .frame ∷ long ∷ []) ∙ ap (λ (v : Verdict). firstRefusal (v ∷ h .frame ∷ long ∷ [])) d ∙ first-group (v ∷ []) (h .frame ∷ long ∷ []) []
 
     -- then the readings
     pub query-table-is : (v : Verdict) → queryTableAsked c h room ≡ v → checkQueryTable c h room ≡ firstRefusal (v ∷ readings ∷ [])

@@ -14,7 +14,7 @@ use Rattle.records.specs.Vectors.{Hour, checkReadings, blocksOf}
 use Rattle.refusals.specs.declared.settings.Settings.{Settings}
 use Rattle.refusals.specs.declared.Refusal.the-variants.{Table, Size, Record}
 use Rattle.refusals.specs.declared.Verdict.{Verdict}
-use Rattle.refusals.specs.declared.Verdict.the-variants.{Accepted, Refused}
+use Rattle.refusals.specs.declared.Verdict.the-variants.{Accepted}
 use Rattle.refusals.specs.Laws.Verdicts.{first-accepted, first-append}
 use Rattle.refusals.specs.Limits.{blocksMost}
 use Rattle.refusals.specs.Settings.{checkSettings}
@@ -23,19 +23,13 @@ use Rattle.refusals.specs.Verdicts.{unless, firstRefusal}
 use Rattle.scores.specs.Laws.Pair.{PairTaken, pair-taken}
 use Rattle.scores.specs.Scores.{checkCode, checkPair, checkQuery}
 use Rattle.tables.specs.Filling.{checkTable, checkEntries}
-use Rattle.tables.specs.Laws.Filling.{table-taken, entries-taken}
+use Rattle.tables.specs.Laws.Filling.{first-group, table-taken, entries-taken}
 use Rattle.tables.specs.Scoring.{checkPairBy, recordBy, checkQueryBy}
 use Rattle.tables.specs.Tables.{pairMost, queryMost, pairSize, partSize}
 
--- checks that stand together may be made as one
-group : (a b c : List Verdict) → firstRefusal (a ++ (b ++ c)) ≡ firstRefusal (a ++ (firstRefusal b ∷ c))
-group [] b c = first-append b c
-group (Accepted ∷ a) b c = group a b c
-group (Refused r ∷ a) b c = refl
-
 -- a check that accepts may be left out
 pub first-without : (a c : List Verdict) → firstRefusal (a ++ (Accepted ∷ c)) ≡ firstRefusal (a ++ c)
-first-without a c = sym (group a [] c)
+first-without a c = sym (first-group a [] c)
 
 -- ---- by the pair table
 
@@ -68,9 +62,9 @@ module _ (c : Settings) (steps : List ℤ) (b : List ℕ) (steps′ : List ℤ) 
   pair-by-is v w u d e f =
       first-append coder (checkSteps 1 steps′ ∷ table ∷ long ∷ here ∷ there ∷ [])
       ∙ ap₂ (λ (v w : Verdict). firstRefusal (v ∷ w ∷ table ∷ long ∷ here ∷ there ∷ [])) d e
-      ∙ group (v ∷ w ∷ []) (table ∷ long ∷ []) (here ∷ there ∷ [])
+      ∙ first-group (v ∷ w ∷ []) (table ∷ long ∷ []) (here ∷ there ∷ [])
       ∙ ap (λ (u : Verdict). firstRefusal (v ∷ w ∷ u ∷ here ∷ there ∷ [])) f
-      ∙ group (v ∷ w ∷ u ∷ []) (here ∷ there ∷ []) []
+      ∙ first-group (v ∷ w ∷ u ∷ []) (here ∷ there ∷ []) []
 
   -- where q is 2 and the table is long enough, the order is that of the plain score
   pub pair-by-same : table ≡ Accepted → long ≡ Accepted → checkPairBy c steps b steps′ b′ room ≡ checkPair c steps b steps′ b′

@@ -30,7 +30,7 @@ slice-aggregate-best-of-2 c = search needs
 
 best-of-requires-2 : tie.Need-best-of-requires-2
 best-of-requires-2 c κs = let e = c .before in let s = e .before .before in
-    simp (toZ-ofZ, s .fits .q) ((λ h. absurd (e .if1 .left (ap (ofZ w64) (sym (base-is (s .args .q) (s .pre .0 .base)) ∙ ap pos h)))), s .pre .0, s .pre .1, s .pre .2, s .pre .3)
+    simp (toZ-ofZ, s .fits .q) ((λ h. absurd (e .if1 .left (ap (ofZ w64) (sym (base-is (s .args .q) (s .pre .1 .base)) ∙ ap pos h)))), s .pre .0, s .pre .1, s .pre .2, s .pre .3, s .pre .4)
 
 returns : tie.Need-returns
 returns c = let s = c .before .before .before .before .before in c .best-of .ensures ∙ ap (best s) (toZ-ofZ (s .fits .q))

@@ -23,10 +23,10 @@ use Rattle.stores.proofs.search.best_of.Statement.{statement}
 use Rattle.stores.proofs.search.best_of.Tie as tie
 
 abbrev Inv-loop : tie.InvT-loop
-Inv-loop t steps x store q m k n count best₀ i₀ best i = (1 ≤ i) × (i ≤ count) × (best ≡ bestOf (map (queryTotal (natAbs (toZ w64 q)) m steps x) (cut n i store)))
+Inv-loop t entries steps x store q m k n count best₀ i₀ best i = (1 ≤ i) × (i ≤ count) × (best ≡ bestOf (map (queryTotal (natAbs (toZ w64 q)) m steps x) (cut n i store)))
 
 abbrev μ-loop : tie.MeasureT-loop
-μ-loop t steps x store q m k n count best₀ i₀ best i = count - i
+μ-loop t entries steps x store q m k n count best₀ i₀ best i = count - i
 
 module _ (c : tie.After-code-length Inv-loop μ-loop) where
   abbrev s : tie.Start Inv-loop μ-loop
@@ -55,7 +55,7 @@ module _ (c : tie.After-code-length Inv-loop μ-loop) where
   count = length store / n
 
   taken : StoreTaken (length steps) q (s .args .m) (s .args .k) store
-  taken = s .pre .3
+  taken = s .pre .4
 
   some : 0 < count
   some = subst (λ (n : ℕ). 0 < length store / n) (sym n-is) (some-records (length steps) q (s .args .m) (s .args .k) store taken)
@@ -94,7 +94,7 @@ module _ (l : tie.In-loop Inv-loop μ-loop) where
   record-is = let whole : n a * i + n a - n a * i ≡ n a = omega arith in ap (λ (j : ℕ). take j (drop (n a * i) (store a))) whole
 
 code-length-requires : tie.Need-code-length-requires Inv-loop μ-loop
-code-length-requires c κs = (omega (arith, c .before .pre .1 .few), c .before .pre .4)
+code-length-requires c κs = (omega (arith, c .before .pre .2 .few), c .before .pre .5)
 
 div-count : tie.Need-div-count Inv-loop μ-loop
 div-count c = omega (arith, n-is c)
@@ -110,7 +110,7 @@ part-record-total-end c = first-ends c
 
 record-total-requires : tie.Need-record-total-requires Inv-loop μ-loop
 record-total-requires c κs = let a = c .before in let v = s a .args in
-    simp (toZ-ofZ, s a .fits .q) (s a .pre .0, s a .pre .1, s a .pre .2, subst (RecordTaken (length (steps a)) (q a) (v .m) (v .k) (v .k)) (sym (first-is a)) (each a 0 (some a)), s a .pre .4)
+    simp (toZ-ofZ, s a .fits .q) (s a .pre .0, s a .pre .1, s a .pre .2, s a .pre .3, subst (RecordTaken (length (steps a)) (q a) (v .m) (v .k) (v .k)) (sym (first-is a)) (each a 0 (some a)), s a .pre .5)
 
 loop-holds : tie.Need-loop-holds Inv-loop μ-loop
 loop-holds c = let a = c .before .before in let v = s a .args in let f : SFits w64 (c .record-total .result) = record { sfits = c .record-total .ok } in let whole : n a - 0 ≡ n a = omega arith in (
@@ -136,7 +136,7 @@ part-record-total-end-2 c = ends (a c) (i c) (within c)
 
 record-total-requires-2 : tie.Need-record-total-requires-2 Inv-loop μ-loop
 record-total-requires-2 c κs = let l = c .before in let b = a l in let v = s b .args in
-    simp (toZ-ofZ, s b .fits .q) (s b .pre .0, s b .pre .1, s b .pre .2, subst (RecordTaken (length (steps b)) (q b) (v .m) (v .k) (v .k)) (sym (record-is l)) (each b (i l) (within l)), s b .pre .4)
+    simp (toZ-ofZ, s b .fits .q) (s b .pre .0, s b .pre .1, s b .pre .2, s b .pre .3, subst (RecordTaken (length (steps b)) (q b) (v .m) (v .k) (v .k)) (sym (record-is l)) (each b (i l) (within l)), s b .pre .5)
 
 better-requires : tie.Need-better-requires Inv-loop μ-loop
 better-requires c κs = search needs

@@ -71,7 +71,7 @@ module _ (c : tie.After-enum-told) where
 -- the numbers that the search is given
 module _ (c : tie.After-base) where
   abbrev t : tie.After-check-store
-  t = k (c .before)
+  t = k (c .before .before)
 
   fits : SFits w64 (c .base .result)
   fits = record { sfits = c .base .ok }
@@ -98,13 +98,23 @@ enum-told : tie.Need-enum-told
 enum-told c = search needs
 
 base-requires : tie.Need-base-requires
-base-requires c κs = s (k c) .pre .0 .allowed
+base-requires c κs = s (k (c .before)) .pre .0 .allowed
+
+sub-best-body : tie.Need-sub-best-body
+sub-best-body c = omega arith
+
+part-best-body-start : tie.Need-part-best-body-start
+part-best-body-start c = omega arith
+
+part-best-body-end : tie.Need-part-best-body-end
+part-best-body-end c = omega arith
 
 best-body-requires : tie.Need-best-body-requires
 best-body-requires c κs = let a = t c in let w = whole-x (s a) in (
+  (λ h. absurd (omega (arith, h))),
   subst₂ (λ (z : ℤ) (m : ℕ). Coder z m (steps a)) (sym (q-is c)) (sym (m-is a)) (s a .pre .0 .coder),
   record { long = w .times; small = s a .pre .1 .small },
-  subst₂ (λ (z : ℤ) (m : ℕ). StoreTaken (length (steps a)) (natAbs z) m (K a) (store a)) (sym (q-is c)) (sym (m-is a)) (taken (c .before)),
+  subst₂ (λ (z : ℤ) (m : ℕ). StoreTaken (length (steps a)) (natAbs z) m (K a) (store a)) (sym (q-is c)) (sym (m-is a)) (taken (c .before .before)),
   w .few,
 )
 
@@ -117,7 +127,7 @@ returns c = let a = c .before .before .before .before in c .no-hour .ensures ∙
 returns-2 : tie.Need-returns-2
 returns-2 c = let b = c .before .before in let a = t b in
     c .hour-found .ensures ∙ ap (found Accepted) (c .before .best-body .ensures ∙ ap₂ (λ (z : ℤ) (m : ℕ). bestIn (natAbs z) m (steps a) (X a) (K a) (store a)) (q-is b) (m-is a))
-    ∙ ap (λ (v : Verdict). found v (best a)) (sym (accepted (b .before)))
+    ∙ ap (λ (v : Verdict). found v (best a)) (sym (accepted (b .before .before)))
 
 pub search-units-spec : {M : Type 1} → statement M
 search-units-spec =
@@ -129,6 +139,9 @@ search-units-spec =
     enum-known-r
     no-hour-requires
     enum-told
+    sub-best-body
+    part-best-body-start
+    part-best-body-end
     base-requires
     best-body-requires
     hour-found-requires

@@ -1,0 +1,67 @@
+-- `check_fvecs_asked` checks settings, steps and q, then what is lent.
+use mathlib.Core.Path.{_≡_, sym, _∙_}
+use mathlib.Core.List.{List, [], _∷_}
+use lib.IntN.{ℤ}
+use Rattle.records.specs.Vectors.{Hour, fvecsHour}
+use Rattle.refusals.specs.declared.settings.Settings.{Settings}
+use Rattle.refusals.specs.declared.Verdict.{Verdict}
+use Rattle.refusals.specs.Laws.Verdicts.{first-last}
+use Rattle.refusals.specs.Verdicts.{firstRefusal}
+use Rattle.tables.specs.Filling.{lentAsked}
+use Rattle.stores.specs.Laws.Tabled.{FirstTaken, first-taken, first-coder, asked-is}
+use Rattle.stores.specs.Tabled.{tableAsked}
+use Rattle.stores.proofs.tabled.check_fvecs_asked.Statement.{statement}
+use Rattle.stores.proofs.tabled.check_fvecs_asked.Tie as tie
+
+module _ (c : tie.After-check-coder-table) where
+  abbrev s : tie.Start
+  s = c .before .before
+
+  abbrev steps : List ℤ
+  steps = s .args .steps .now
+
+  abbrev chosen : Settings
+  chosen = s .args .s
+
+  abbrev h : Hour
+  h = fvecsHour (s .args .query .now)
+
+  abbrev lent : Verdict
+  lent = lentAsked chosen h (s .args .room)
+
+  -- by what is said of settings, steps and q
+  decided : (v : Verdict) → c .check-coder-table .result ≡ v → firstRefusal (v ∷ lent ∷ []) ≡ tableAsked chosen steps h (s .args .room)
+  decided v e = sym (asked-is chosen steps h (s .args .room) v (sym (c .check-coder-table .ensures) ∙ e))
+
+-- where they are accepted
+taken : (c : tie.After-enum-told) → let k = c .before .before in FirstTaken (chosen k) (steps k)
+taken c = let k = c .before .before in first-taken (chosen k) (steps k) (sym (k .check-coder-table .ensures) ∙ c .enum-told .given .1)
+
+check-coder-table-requires : tie.Need-check-coder-table-requires
+check-coder-table-requires c κs = tt
+
+enum-known-r : tie.Need-enum-known-r
+enum-known-r c = c .match .keys1
+
+enum-told : tie.Need-enum-told
+enum-told c = c .match .keys2
+
+check-fvecs-lent-requires : tie.Need-check-fvecs-lent-requires
+check-fvecs-lent-requires c κs = let k = c .before .before in (first-coder (chosen k) (steps k) (taken c) .allowed, taken c .most)
+
+returns : tie.Need-returns
+returns c = decided (c .before .before .before) _ (c .before .r .given .1)
+
+returns-2 : tie.Need-returns-2
+returns-2 c = let t = c .before in let k = t .before .before in c .check-fvecs-lent .ensures ∙ sym (first-last (lent k)) ∙ decided k _ (t .enum-told .given .1)
+
+pub check-fvecs-asked-spec : {M : Type 1} → statement M
+check-fvecs-asked-spec =
+    tie.close
+    (tie.spec
+    check-coder-table-requires
+    enum-known-r
+    enum-told
+    check-fvecs-lent-requires
+    returns
+    returns-2)
