@@ -6,6 +6,7 @@ ghost use Rattle.encoding.specs.Encode.{encoded, encodedRoom};
 ghost use Rattle.records.specs.Vectors.{unitsHour, fvecsHour};
 ghost use Rattle.scores.specs.Scores.{pairScore, queryScore};
 ghost use Rattle.stores.specs.Stores.{bestHour};
+ghost use Rattle.stores.specs.Tabled.{bestHourBy, bestHourTable};
 ghost use Rattle.tables.specs.Filling.{pairFilled, pairTableRoom, queryFilled, queryTableRoom};
 ghost use Rattle.tables.specs.Scoring.{pairScoreBy, queryScoreBy};
 ghost use Rattle.unit.specs.Answers.{settings, answerOut, hourOut};
@@ -147,4 +148,25 @@ pub extern "C" fn ek_best_hour(s: EkSettings, steps: &[i32], query: &[u8], store
     ensures { λ r. ⌜ r ≡ hourOut (bestHour (settings s) (now (steps .entry)) (fvecsHour (now (query .entry))) (now (store .entry))) ⌝ }
 {
     answers::hour_out(stores::search::best_hour(answers::settings_in(s), steps, query, store))
+}
+
+// The same by a query table, filled in the lent room.
+#[no_mangle]
+pub extern "C" fn ek_best_hour_with_table(
+    s: EkSettings,
+    steps: &[i32],
+    query: &[u8],
+    store: &[u8],
+    table: &mut [i32],
+) -> EkHour
+    ensures answer { λ r. ⌜ r ≡ hourOut (bestHourBy (settings s) (now (steps .entry)) (fvecsHour (now (query .entry))) (now (store .entry)) (length (now (table .entry)))) ⌝ }
+    ensures room { λ _. ⌜ now (table .exit) ≡ bestHourTable (settings s) (now (steps .entry)) (fvecsHour (now (query .entry))) (now (store .entry)) (now (table .entry)) ⌝ }
+{
+    answers::hour_out(stores::tabled::best_hour_with_table(
+        answers::settings_in(s),
+        steps,
+        query,
+        store,
+        table,
+    ))
 }
