@@ -5,10 +5,10 @@
 
 #include "enkhovrag.h"
 
-enum { READINGS = 8, HOURS = 3, RECORD = 4 + 4 * READINGS, CODE = 4 + 8 * 3 + 1, ENTRIES = 65536 };
+enum { READINGS = 8, HOURS = 3, RECORD = 4 + 4 * READINGS, CODE = 4 + 8 * 4 + 1, ENTRIES = 65536 };
 
-static const ek_settings settings = {4, 3};
-static const int32_t steps[] = {16, 128, 1024};
+static const ek_settings settings = {4, 4};
+static const int32_t steps[] = {64, 256, 1024};
 enum { STEPS = sizeof steps / sizeof steps[0] };
 
 static const char *const probes[READINGS] = {"pH", "temperature", "flow", "silica", "conductivity", "pressure", "acid", "level"};
