@@ -62,13 +62,13 @@ module _ (c : tie.Then1) where
   frame = record-framed 4 8 1 blocksMost (b (k e)) good
 
 check-q-requires : tie.Need-check-q-requires
-check-q-requires c κs = search needs
+check-q-requires c κs = tt
 
 enum-known-r : tie.Need-enum-known-r
-enum-known-r c = search needs
+enum-known-r c = c .match .keys1
 
 enum-told : tie.Need-enum-told
-enum-told c = search needs
+enum-told c = c .match .keys2
 
 good-record-requires : tie.Need-good-record-requires
 good-record-requires c κs = (omega arith, omega arith)

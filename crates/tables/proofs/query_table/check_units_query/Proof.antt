@@ -1,5 +1,4 @@
 -- `check_units_query` is the list of checks; the first two are made as one.
-use borrow.Author.Needs.{needs}
 use mathlib.Core.Path.{_≡_, refl, sym, _∙_, ap}
 use mathlib.Core.Bool.{Bool, true}
 use mathlib.Core.List.{List, [], _∷_}
@@ -63,13 +62,13 @@ module _ (c : tie.Then1) where
   whole = sym (c .before .whole-blocks .ensures) ∙ c .if1 .taken
 
 check-q-requires : tie.Need-check-q-requires
-check-q-requires c κs = search needs
+check-q-requires c κs = tt
 
 enum-known-r : tie.Need-enum-known-r
-enum-known-r c = search needs
+enum-known-r c = c .match .keys1
 
 enum-told : tie.Need-enum-told
-enum-told c = search needs
+enum-told c = c .match .keys2
 
 whole-blocks-requires : tie.Need-whole-blocks-requires
 whole-blocks-requires c κs = omega arith
@@ -78,13 +77,13 @@ check-entries-requires : tie.Need-check-entries-requires
 check-entries-requires c κs = let t = taken (e c) in (t .0, t .1, blocks-whole 8 1 blocksMost (length (x (k (e c)))) (whole c) .few)
 
 enum-known-r-2 : tie.Need-enum-known-r-2
-enum-known-r-2 c = search needs
+enum-known-r-2 c = c .match2 .keys1
 
 enum-told-2 : tie.Need-enum-told-2
-enum-told-2 c = search needs
+enum-told-2 c = c .match2 .keys2
 
 check-units-requires : tie.Need-check-units-requires
-check-units-requires c κs = search needs
+check-units-requires c κs = tt
 
 returns : tie.Need-returns
 returns c = decided (c .before .before .before) _ _ _ (c .before .r .given .1) refl refl
