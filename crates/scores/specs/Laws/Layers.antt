@@ -20,8 +20,7 @@ use Rattle.records.specs.Codes.{wholePoint}
 use Rattle.scores.specs.Laws.Inner.{inner-four}
 use Rattle.scores.specs.Scores.{inner}
 
--- ---- sums over layers of one kind of term, and of another that is c times it
-
+-- sums whose terms are c times those of others are c times theirs
 module _ (n q : ℕ) (c : ℤ) where
   times-step : (c w x t : ℤ) → w *ℤ (c *ℤ x) +ℤ c *ℤ t ≡ c *ℤ (w *ℤ x +ℤ t)
   times-step = byD₄ _ λ _ _ _ _ _ _ _ _. simp ints (omega arith)

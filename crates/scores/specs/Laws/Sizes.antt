@@ -20,15 +20,16 @@ use Rattle.refusals.specs.Limits.{stepMost}
 use Rattle.scores.specs.Laws.Inner.{inner-size}
 use Rattle.scores.specs.Scores.{inner, blockPair, blockQuery}
 
+-- an inner product of n entries up to A with n up to B is at most n A B
 pub dot-sized : (n A B : ℕ) (a b : List ℤ) → Sized n A a → Sized n B b → natAbs (dot a b) ≤ n * (A * B)
 dot-sized n A B a b h k = rw (take-all n a (omega (arith, h .long)), take-all n b (omega (arith, k .long))) at (dot-bound A B a b (h .small) (k .small) n)
 
--- s times an inner product, and s·t times one
 module _ (q : ℤ) (m : ℕ) where
+  -- no coordinate of a whole point is larger, not doubled
   abbrev W : ℕ
   W = width (natAbs q) m
 
-  -- one block's part of a query score, and of a pair score
+  -- the most that one block adds to a query score, and to a pair score
   abbrev pub queryPart : ℕ
   queryPart = stepMost * (8 * (2 ^ 24 * (2 * W)))
 
@@ -36,6 +37,7 @@ module _ (q : ℤ) (m : ℕ) where
   pairPart = stepMost * stepMost * (8 * (W * W))
 
   module _ (steps : List ℤ) (c : Coder q m steps) where
+    -- which is at most 2 (q^M - 1), with q^M at most 4096
     pub width-most : W ≤ 8190
     width-most = omega (arith, width-less (natAbs q) m (base-two q (c .base)), c .power)
 
@@ -43,19 +45,23 @@ module _ (q : ℤ) (m : ℕ) where
       abbrev e : List ℤ
       e = wholePoint (natAbs q) m b
 
+      -- a coded block names a point of E8
       pub point-in : E8 e
       point-in = decode-in8 (natAbs q) m (coder-positive q m steps c) (drop 1 b) (h .code)
 
+      -- with coordinates up to 2 W, doubled
       pub point-sized : Sized 8 (2 * W) e
       point-sized = record { long = point-in .long; small = decode-small8 (natAbs q) m (coder-positive q m steps c) (drop 1 b) (h .code) }
 
-      -- as the code takes it
+      -- so one that the code takes
       pub point-small : Sized 8 (2 ^ 24) e
       point-small = sized-more 8 (2 * W) e point-sized (2 ^ 24) (omega (arith, width-most))
 
+      -- and a step up to 1024
       pub step-small : natAbs (stepOf steps b) ≤ stepMost
       step-small = c .listed .each (getD b 0 0) (h .first) .most
 
+      -- s times an inner product
       pub query-dot-small : (X : List ℤ) → Sized 8 (2 ^ 24) X → natAbs (dot X e) ≤ 8 * (2 ^ 24 * (2 * W))
       query-dot-small X k = dot-sized 8 (2 ^ 24) (2 * W) X e k point-sized
 
@@ -76,6 +82,7 @@ module _ (q : ℤ) (m : ℕ) (steps steps′ : List ℤ) (c : Coder q m steps) (
   abbrev p′ : List ℤ
   p′ = wholePoint (natAbs q) m b′
 
+  -- a quarter of 8 (2 W)²
   pub inner-small : natAbs (inner p p′) ≤ 8 * (W q m * W q m)
   inner-small = omega (
     arith,

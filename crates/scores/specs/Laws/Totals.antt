@@ -56,6 +56,7 @@ module _ {A B : Type 0} (f : List A → List B → ℤ) (n m : ℕ) (x : List A)
 
 -- ---- totals of inner products
 
+-- an inner product in two parts
 dot-append : (a b c d : List ℤ) → length a ≡ length b → dot (a ++ c) (b ++ d) ≡ dot a b +ℤ dot c d
 dot-append [] [] c d h = sym (+ℤ-idl (dot c d))
 dot-append [] (y ∷ b) c d h = absurd (omega arith)

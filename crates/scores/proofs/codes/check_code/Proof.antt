@@ -1,5 +1,4 @@
 -- `check_code` tests the frame, then the bytes: the two checks in their order.
-use borrow.Author.Needs.{needs}
 use mathlib.Core.Path.{_≡_, sym, _∙_, ap, ap₂, subst₂}
 use mathlib.Core.Bool.{Bool, true}
 use mathlib.Core.List.{List, [], _∷_}
@@ -72,7 +71,7 @@ part-check-blocks-start : tie.Need-part-check-blocks-start
 part-check-blocks-start c = omega (arith, frame (c .before) .there)
 
 part-check-blocks-end : tie.Need-part-check-blocks-end
-part-check-blocks-end c = search needs
+part-check-blocks-end c = omega arith
 
 check-blocks-requires : tie.Need-check-blocks-requires
 check-blocks-requires c κs = let k = c .before in let t = k .before in let a = g t in

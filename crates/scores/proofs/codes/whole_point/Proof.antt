@@ -1,5 +1,4 @@
 -- `whole_point` decodes all bytes but the first.
-use borrow.Author.Needs.{needs}
 use mathlib.Core.Path.{sym, _∙_, ap₂, subst}
 use mathlib.Core.List.{List}
 use Prim.Native.Nat.{ℕ}
@@ -19,7 +18,7 @@ part-decode-start : tie.Need-part-decode-start
 part-decode-start c = omega (arith, c .before .pre .3)
 
 part-decode-end : tie.Need-part-decode-end
-part-decode-end c = search needs
+part-decode-end c = omega arith
 
 decode-requires : tie.Need-decode-requires
 decode-requires c κs = let s = c .before .before in let p = s .pre in let a = s .args in

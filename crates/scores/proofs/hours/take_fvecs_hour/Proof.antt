@@ -51,7 +51,7 @@ frame : (c : tie.Then1) → Framed 4 8 1 blocksMost (s (k (c .before)) .args .ho
 frame c = record-framed 4 8 1 blocksMost _ (sym (c .before .good-record .ensures) ∙ c .if1 .taken)
 
 check-coder-requires : tie.Need-check-coder-requires
-check-coder-requires c κs = search needs
+check-coder-requires c κs = tt
 
 enum-known-r : tie.Need-enum-known-r
 enum-known-r c = search needs

@@ -1,5 +1,4 @@
 -- `inner` shifts the sum right by two places, which divides by 4 and rounds down.
-use borrow.Author.Needs.{needs}
 use mathlib.Core.Path.{_∙_, ap}
 use native.Mathlib.Omega.{arith}
 use lib.IntN.{ℤ}
@@ -24,7 +23,7 @@ module _ (c : tie.After-dot) where
   fq = record { sfits = omega (arith, mag-shr z 4, fz .sfits) }
 
 dot-requires : tie.Need-dot-requires
-dot-requires c κs = search needs
+dot-requires c κs = c .pre
 
 returns : tie.Need-returns
 unfolding inner

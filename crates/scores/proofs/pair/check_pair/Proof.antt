@@ -46,7 +46,7 @@ module _ (c : tie.After-enum-told) where
   taken = coder-accepted (s k .args .s) (s k .args .steps .now) (sym (k .check-coder .ensures) ∙ c .enum-told .given .1)
 
 check-coder-requires : tie.Need-check-coder-requires
-check-coder-requires c κs = search needs
+check-coder-requires c κs = tt
 
 enum-known-r : tie.Need-enum-known-r
 enum-known-r c = search needs
@@ -55,7 +55,7 @@ enum-told : tie.Need-enum-told
 enum-told c = search needs
 
 check-steps-requires : tie.Need-check-steps-requires
-check-steps-requires c κs = search needs
+check-steps-requires c κs = tt
 
 enum-known-r-2 : tie.Need-enum-known-r-2
 enum-known-r-2 c = search needs

@@ -18,7 +18,7 @@ module _ (s : tie.Start) where
   sum z = let a = s .args in total (blockPair (natAbs z) (a .m) (a .steps .now) (a .steps2 .now)) (cut (blockSize (a .m)) (a .k) (a .body .now)) (cut (blockSize (a .m)) (a .k) (a .body2 .now))
 
 layer-points-requires : tie.Need-layer-points-requires
-layer-points-requires c κs = search needs
+layer-points-requires c κs = tt
 
 slice-aggregate-pair-total : tie.Need-slice-aggregate-pair-total
 slice-aggregate-pair-total c = search needs

@@ -96,13 +96,13 @@ module _ (c : tie.After-blocks-in) where
   by-numbers P h = subst₂ (λ (z : ℤ) (m : ℕ). P z m (c .blocks-in .result)) (sym q-is) (sym m-is) (subst (P (s t .args .s .q) (m t)) (sym k-is) h)
 
 check-pair-requires : tie.Need-check-pair-requires
-check-pair-requires c κs = search needs
+check-pair-requires c κs = tt
 
 enum-known-r : tie.Need-enum-known-r
 enum-known-r c = search needs
 
 refused-requires : tie.Need-refused-requires
-refused-requires c κs = search needs
+refused-requires c κs = tt
 
 enum-told : tie.Need-enum-told
 enum-told c = search needs
@@ -123,7 +123,7 @@ part-pair-body-start : tie.Need-part-pair-body-start
 part-pair-body-start c = omega (arith, taken (told c) .code .frame .there)
 
 part-pair-body-end : tie.Need-part-pair-body-end
-part-pair-body-end c = search needs
+part-pair-body-end c = omega arith
 
 sub-pair-body-2 : tie.Need-sub-pair-body-2
 sub-pair-body-2 c = omega (arith, taken (told (c .before)) .other .frame .there)
@@ -132,7 +132,7 @@ part-pair-body-start-2 : tie.Need-part-pair-body-start-2
 part-pair-body-start-2 c = omega (arith, taken (told (c .before)) .other .frame .there)
 
 part-pair-body-end-2 : tie.Need-part-pair-body-end-2
-part-pair-body-end-2 c = search needs
+part-pair-body-end-2 c = omega arith
 
 pair-body-requires : tie.Need-pair-body-requires
 pair-body-requires c κs = let n = c .before .before in let a = t n in let h = taken (told n) in (

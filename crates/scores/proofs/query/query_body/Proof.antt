@@ -18,13 +18,14 @@ module _ (s : tie.Start) where
   sum z = total (blockQuery (natAbs z) (s .args .m) (s .args .steps .now)) (cut 8 (s .args .k) (s .args .x .now)) (cut (blockSize (s .args .m)) (s .args .k) (s .args .body .now))
 
 layer-points-requires : tie.Need-layer-points-requires
-layer-points-requires c κs = search needs
+layer-points-requires c κs = tt
 
 slice-aggregate-query-total : tie.Need-slice-aggregate-query-total
 slice-aggregate-query-total c = search needs
 
 query-total-requires : tie.Need-query-total-requires
-query-total-requires c κs = search needs
+query-total-requires c κs = let p = c .before in let s = p .before .before .before in
+    simp (toZ-ofZ, s .fits .q) ((λ h. p .layer-points .ensures), s .pre .0, s .pre .1, s .pre .2, s .pre .3)
 
 slice-aggregate-query-total-2 : tie.Need-slice-aggregate-query-total-2
 slice-aggregate-query-total-2 c = search needs

@@ -78,7 +78,7 @@ enum-known-r : tie.Need-enum-known-r
 enum-known-r c = search needs
 
 refused-requires : tie.Need-refused-requires
-refused-requires c κs = search needs
+refused-requires c κs = tt
 
 enum-told : tie.Need-enum-told
 enum-told c = search needs
@@ -90,10 +90,10 @@ cast-n : tie.Need-cast-n
 cast-n c = search needs
 
 sub-score-units : tie.Need-sub-score-units
-sub-score-units c = search needs
+sub-score-units c = omega arith
 
 part-score-units-start : tie.Need-part-score-units-start
-part-score-units-start c = search needs
+part-score-units-start c = omega arith
 
 part-score-units-end : tie.Need-part-score-units-end
 part-score-units-end c = enough (c .before)

@@ -1,5 +1,4 @@
 -- `query_total` adds block after block: after i turns z is the total of the first i, which stays small.
-use borrow.Author.Needs.{needs}
 use mathlib.Core.Path.{_≡_, refl, sym, _∙_, ap, ap₂, subst}
 use mathlib.Core.List.{List}
 use Prim.Native.Nat.{ℕ, _+_, _*_, _-_, _^_, _<_, _≤_}
@@ -140,7 +139,7 @@ add-end : tie.Need-add-end Inv-loop μ-loop
 add-end c = omega (arith, ends c)
 
 mul-block-query : tie.Need-mul-block-query Inv-loop μ-loop
-mul-block-query c = search needs
+mul-block-query c = omega arith
 
 sub-block-query : tie.Need-sub-block-query Inv-loop μ-loop
 sub-block-query c = omega arith

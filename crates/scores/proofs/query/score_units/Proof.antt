@@ -105,7 +105,7 @@ enum-known-r : tie.Need-enum-known-r
 enum-known-r c = search needs
 
 refused-requires : tie.Need-refused-requires
-refused-requires c κs = search needs
+refused-requires c κs = tt
 
 enum-told : tie.Need-enum-told
 enum-told c = search needs
@@ -117,7 +117,7 @@ part-query-body-start : tie.Need-part-query-body-start
 part-query-body-start c = omega (arith, taken c .frame .there)
 
 part-query-body-end : tie.Need-part-query-body-end
-part-query-body-end c = search needs
+part-query-body-end c = omega arith
 
 base-requires : tie.Need-base-requires
 base-requires c κs = s (k (c .before)) .pre .0 .allowed
