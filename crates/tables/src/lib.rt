@@ -1,7 +1,7 @@
-// Scores by table (01, Scores).
-pub mod counting;
+// Tables of scores: filling them, and scoring by them (01, Scores).
+mod counting;
 pub mod pair_score;
 pub mod pair_table;
-pub mod parts;
+mod parts;
 pub mod query_score;
 pub mod query_table;

@@ -81,16 +81,6 @@ pub fn fill_blocks(x: &[i32], q: i64, k: usize, entries: &mut [i32])
     }
 }
 
-// Refusals 1, and 8 where q is past 4.
-fn check_q(s: Settings) -> Verdict
-    ensures { λ r. ⌜ r ≡ firstRefusal (checkSettings s ∷ checkTable queryMost s ∷ []) ⌝ }
-{
-    match settings::check_settings(s) {
-        Verdict::Refused(r) => Verdict::Refused(r),
-        Verdict::Accepted => check_table(s),
-    }
-}
-
 // Refusal 8 where q is past 4.
 pub fn check_table(s: Settings) -> Verdict
     requires { ⌜ Allowed (s .q) (s .m) ⌝ }
@@ -100,6 +90,16 @@ pub fn check_table(s: Settings) -> Verdict
         Verdict::Accepted
     } else {
         Verdict::Refused(Refusal::Table)
+    }
+}
+
+// Refusals 1, and 8 where q is past 4.
+fn check_q(s: Settings) -> Verdict
+    ensures { λ r. ⌜ r ≡ firstRefusal (checkSettings s ∷ checkTable queryMost s ∷ []) ⌝ }
+{
+    match settings::check_settings(s) {
+        Verdict::Refused(r) => Verdict::Refused(r),
+        Verdict::Accepted => check_table(s),
     }
 }
 

@@ -1,11 +1,11 @@
 -- `count_up` goes from the first digit on: those before k are done, and it ends at the first that goes up.
 use borrow.Author.Needs.{needs}
-use mathlib.Core.Path.{refl}
+use mathlib.Core.Path.{refl, _∙_}
 use mathlib.Core.List.{List}
 use Prim.Native.Nat.{ℕ, _-_, _<_, _≤_}
 use native.Mathlib.Numerals.{add-one}
 use native.Mathlib.Omega.{arith}
-use lib.ListN.{length, getD}
+use lib.ListN.{length, getD, length-set}
 use Rattle.tables.specs.Laws.Counting.{Carrying, carrying-digit, carrying-up, carrying-on, carrying-done}
 use Rattle.tables.proofs.counting.count_up.Statement.{statement}
 use Rattle.tables.proofs.counting.count_up.Tie as tie
@@ -40,23 +40,23 @@ loop-holds : tie.Need-loop-holds Inv-loop μ-loop
 loop-holds c = (omega arith, record { long = refl; below = c .pre; same = refl })
 
 slice-read-d : tie.Need-slice-read-d Inv-loop μ-loop
-slice-read-d c = search needs
+slice-read-d c = within c
 
 add-d : tie.Need-add-d Inv-loop μ-loop
 add-d c = record { fits = omega (arith, digit c, s c .fits .q .fits) }
 
 slice-write-ds : tie.Need-slice-write-ds Inv-loop μ-loop
-slice-write-ds c = search needs
+slice-write-ds c = within (c .before)
 
 same-length : tie.Need-same-length Inv-loop μ-loop
-same-length c = search needs
+same-length c = let a = c .before in length-set (ds a) (k a) _ ∙ l a .loop .inv .1 .long
 
 returns : tie.Need-returns Inv-loop μ-loop
 returns c = let a = c .before in
     rw (add-one (getD (ds a) (k a) 0)) (carrying-up (s a .args .q) (s a .args .ds .now) (k a) (ds a) (l a .loop .inv .1) (within a) (omega (arith, c .if1 .taken)))
 
 slice-write-ds-2 : tie.Need-slice-write-ds-2 Inv-loop μ-loop
-slice-write-ds-2 c = search needs
+slice-write-ds-2 c = within (c .before)
 
 add-k : tie.Need-add-k Inv-loop μ-loop
 add-k c = search needs

@@ -3,7 +3,6 @@ use mathlib.Core.Path.{_≡_, sym, _∙_, ap, ap₂, subst}
 use mathlib.Core.List.{List, map}
 use Prim.Native.Nat.{ℕ, _+_, _*_, _-_, _^_, _<_, _≤_}
 use native.Mathlib.Omega.{arith}
-use borrow.Author.Needs.{needs}
 use lib.IntN.{ℤ, pos, natAbs, _+ℤ_, _*ℤ_}
 use lib.ListN.{length, take, drop, length-take, length-drop}
 use mir.Syntax.{w64}
@@ -214,7 +213,7 @@ part-entry-numbers-start : tie.Need-part-entry-numbers-start Inv-loop μ-loop
 part-entry-numbers-start c = omega (arith, c .before .before .pre .3 .long)
 
 part-entry-numbers-end : tie.Need-part-entry-numbers-end Inv-loop μ-loop
-part-entry-numbers-end c = search needs
+part-entry-numbers-end c = omega arith
 
 entry-numbers-requires : tie.Need-entry-numbers-requires Inv-loop μ-loop
 entry-numbers-requires c κs = let s = c .before .before .before in (s .pre .1 .few, subst (IsCode 8 2 (m s)) (sym (rest-whole 1 (b′ s))) (s .pre .3 .code))

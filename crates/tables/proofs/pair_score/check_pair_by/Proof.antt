@@ -1,5 +1,4 @@
 -- `check_pair_by` is the list of checks: the first two are made as one, so are those of the table, and both records.
-use borrow.Author.Needs.{needs}
 use mathlib.Core.Path.{_≡_, refl, sym, _∙_, ap₂}
 use mathlib.Core.List.{List, [], _∷_}
 use Prim.Native.Nat.{ℕ}
@@ -56,31 +55,31 @@ module _ (c : tie.After-enum-told2) where
   second = sym (c .before .before .check-steps .ensures) ∙ c .enum-told2 .given .1
 
 check-coder-requires : tie.Need-check-coder-requires
-check-coder-requires c κs = search needs
+check-coder-requires c κs = tt
 
 enum-known-r : tie.Need-enum-known-r
-enum-known-r c = search needs
+enum-known-r c = c .match .keys1
 
 enum-told : tie.Need-enum-told
-enum-told c = search needs
+enum-told c = c .match .keys2
 
 check-steps-requires : tie.Need-check-steps-requires
-check-steps-requires c κs = search needs
+check-steps-requires c κs = tt
 
 enum-known-r-2 : tie.Need-enum-known-r-2
-enum-known-r-2 c = search needs
+enum-known-r-2 c = c .match2 .keys1
 
 enum-told-2 : tie.Need-enum-told-2
-enum-told-2 c = search needs
+enum-told-2 c = c .match2 .keys2
 
 check-lent-requires : tie.Need-check-lent-requires
 check-lent-requires c κs = taken (e c) .allowed
 
 enum-known-r-3 : tie.Need-enum-known-r-3
-enum-known-r-3 c = search needs
+enum-known-r-3 c = c .match3 .keys1
 
 enum-told-3 : tie.Need-enum-told-3
-enum-told-3 c = search needs
+enum-told-3 c = c .match3 .keys2
 
 digit-values-requires : tie.Need-digit-values-requires
 digit-values-requires c κs = taken (e (c .before .before .before)) .allowed

@@ -1,5 +1,4 @@
 -- `pair_score_by_table` answers what is refused, and else the total over the blocks of both records, of which there are equally many.
-use borrow.Author.Needs.{needs}
 use mathlib.Core.Path.{_≡_, sym, _∙_, ap, ap₂, subst, subst₂}
 use mathlib.Core.List.{List}
 use Prim.Native.Nat.{ℕ, _-_}
@@ -91,16 +90,16 @@ module _ (c : tie.After-blocks-in) where
   k-is = c .blocks-in .ensures ∙ ap (λ (m : ℕ). blocksIn m (b a)) m-is
 
 check-pair-by-requires : tie.Need-check-pair-by-requires
-check-pair-by-requires c κs = search needs
+check-pair-by-requires c κs = tt
 
 enum-known-r : tie.Need-enum-known-r
-enum-known-r c = search needs
+enum-known-r c = c .match .keys1
 
 refused-requires : tie.Need-refused-requires
-refused-requires c κs = search needs
+refused-requires c κs = tt
 
 enum-told : tie.Need-enum-told
-enum-told c = search needs
+enum-told c = c .match .keys2
 
 layers-requires : tie.Need-layers-requires
 layers-requires c κs = taken c .pair .first .allowed
@@ -115,7 +114,7 @@ part-pair-total-by-start : tie.Need-part-pair-total-by-start
 part-pair-total-by-start c = omega (arith, taken (told c) .pair .code .frame .there)
 
 part-pair-total-by-end : tie.Need-part-pair-total-by-end
-part-pair-total-by-end c = search needs
+part-pair-total-by-end c = omega arith
 
 sub-pair-total-by-2 : tie.Need-sub-pair-total-by-2
 sub-pair-total-by-2 c = omega (arith, taken (told (c .before)) .pair .other .frame .there)
@@ -124,7 +123,7 @@ part-pair-total-by-start-2 : tie.Need-part-pair-total-by-start-2
 part-pair-total-by-start-2 c = omega (arith, taken (told (c .before)) .pair .other .frame .there)
 
 part-pair-total-by-end-2 : tie.Need-part-pair-total-by-end-2
-part-pair-total-by-end-2 c = search needs
+part-pair-total-by-end-2 c = omega arith
 
 pair-total-by-requires : tie.Need-pair-total-by-requires
 pair-total-by-requires c κs = let n = c .before .before in let r = a n in let e = told n in let h = taken e in let p = h .pair in (

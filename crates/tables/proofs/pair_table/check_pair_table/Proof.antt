@@ -1,5 +1,4 @@
 -- `check_pair_table` is the settings' check, then those of the table.
-use borrow.Author.Needs.{needs}
 use mathlib.Core.Path.{sym, _∙_}
 use Rattle.layers.specs.Laws.Asked.{checked-allowed}
 use Rattle.tables.specs.Laws.Filling.{pair-table-is}
@@ -7,13 +6,13 @@ use Rattle.tables.proofs.pair_table.check_pair_table.Statement.{stateme
 use Rattle.tables.proofs.pair_table.check_pair_table.Tie as tie
 
 check-settings-requires : tie.Need-check-settings-requires
-check-settings-requires c κs = search needs
+check-settings-requires c κs = tt
 
 enum-known-r : tie.Need-enum-known-r
-enum-known-r c = search needs
+enum-known-r c = c .match .keys1
 
 enum-told : tie.Need-enum-told
-enum-told c = search needs
+enum-told c = c .match .keys2
 
 check-lent-requires : tie.Need-check-lent-requires
 check-lent-requires c κs = let k = c .before .before in checked-allowed (k .before .args .s) (sym (k .check-settings .ensures) ∙ c .enum-told .given .1)

@@ -1,10 +1,11 @@
 -- `fill_pair_table` fills the rows and answers how many entries there are where nothing is refused.
-use borrow.Author.Needs.{needs}
 use mathlib.Core.Path.{_≡_, sym, _∙_, ap}
 use mathlib.Core.List.{List, _++_}
 use Prim.Native.Nat.{ℕ}
+use native.Mathlib.Omega.{arith}
 use lib.IntN.{ℤ, pos}
 use lib.ListN.{length, drop}
+use Rattle.layers.specs.Laws.Table.{table-long}
 use Rattle.refusals.specs.declared.Verdict.{Verdict}
 use Rattle.refusals.specs.declared.Verdict.the-variants.{Accepted}
 use Rattle.refusals.specs.Answers.{valued, written}
@@ -37,28 +38,28 @@ module _ (c : tie.After-enum-told) where
   taken = pair-table-taken (s k .args .s) (length (found k)) (sym accepted)
 
 check-pair-table-requires : tie.Need-check-pair-table-requires
-check-pair-table-requires c κs = search needs
+check-pair-table-requires c κs = tt
 
 enum-known-r : tie.Need-enum-known-r
-enum-known-r c = search needs
+enum-known-r c = c .match .keys1
 
 refused-requires : tie.Need-refused-requires
-refused-requires c κs = search needs
+refused-requires c κs = tt
 
 enum-told : tie.Need-enum-told
-enum-told c = search needs
+enum-told c = c .match .keys2
 
 layer-points-requires : tie.Need-layer-points-requires
-layer-points-requires c κs = search needs
+layer-points-requires c κs = tt
 
 slice-aggregate-fill-rows : tie.Need-slice-aggregate-fill-rows
-slice-aggregate-fill-rows c = search needs
+slice-aggregate-fill-rows c = sym (ap length (c .before .layer-points .ensures) ∙ table-long)
 
 fill-rows-requires : tie.Need-fill-rows-requires
 fill-rows-requires c κs = let p = c .before .before in (p .layer-points .ensures, taken (p .before) .fits)
 
 cast-t15 : tie.Need-cast-t15
-cast-t15 c = search needs
+cast-t15 c = record { sfits = omega arith }
 
 returns : tie.Need-returns
 unfolding pairFilled pairTableRoom
@@ -66,7 +67,7 @@ returns c = let k = c .before .before .before .before in let e = checked k _ (c 
     (c .refused .ensures ∙ ap (λ (v : Verdict). valued v (pos 65536)) e, ap (λ (v : Verdict). written v pairTable (found k)) e)
 
 same-length : tie.Need-same-length
-same-length c = search needs
+same-length c = c .entries .given
 
 returns-2 : tie.Need-returns-2
 unfolding pairFilled pairTableRoom

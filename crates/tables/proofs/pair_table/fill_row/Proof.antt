@@ -4,7 +4,6 @@ use mathlib.Core.List.{List, _++_, append-nil}
 use Prim.Native.Nat.{ℕ, _+_, _-_, _^_, _<_, _≤_}
 use native.Mathlib.Numerals.{add-one}
 use native.Mathlib.Omega.{arith}
-use borrow.Author.Needs.{needs}
 use lib.IntN.{ℤ, pos, natAbs}
 use lib.ListN.{length, take, drop, set, length-set, drop-of-length-le}
 use lib.Seq.{take-all}
@@ -121,7 +120,7 @@ cast-row : tie.Need-cast-row Inv-loop μ-loop
 cast-row c = simp (toZ-ofZ, y-wide c) (y-fits c)
 
 slice-set-from-row : tie.Need-slice-set-from-row Inv-loop μ-loop
-slice-set-from-row c = search needs
+slice-set-from-row c = c .before .before .before .before .before .loop-test .taken
 
 slice-aggregate-count-up : tie.Need-slice-aggregate-count-up Inv-loop μ-loop
 slice-aggregate-count-up c = sym (is-layer (t (c .before)) .long)

@@ -4,7 +4,6 @@ use mathlib.Core.List.{List, _++_}
 use Prim.Native.Nat.{ℕ, _+_, _*_, _-_, _<_, _≤_}
 use native.Mathlib.Numerals.{add-one}
 use native.Mathlib.Omega.{arith}
-use borrow.Author.Needs.{needs}
 use borrow.Rule.Slice.PartMut.{putMid}
 use lib.IntN.{ℤ}
 use lib.ListN.{length, take, drop, length-take, length-drop}
@@ -108,7 +107,7 @@ loop-less c = omega (arith, within (c .before .before .before .before))
 loop-again : tie.Need-loop-again Inv-loop μ-loop
 loop-again c = let r = c .before .before .before .before in let b = l r in (
   omega (arith, within r),
-  search needs,
+  c .before .before .before .entries .given .1 ∙ b .loop .inv .1,
   rw (add-one (i b)) (c .before .count-up .ensures ∙ ap (countedUp 2) (b .loop .inv .2) ∙ counted-next 2 two 8 (i b)),
   more-is r,
 )

@@ -1,5 +1,4 @@
 -- `check_query_by` is the list of checks: the first two are made as one, and so are those of the record and the table.
-use borrow.Author.Needs.{needs}
 use mathlib.Core.Path.{_≡_, refl, sym, _∙_}
 use mathlib.Core.List.{[], _∷_}
 use lib.IntN.{natAbs}
@@ -43,22 +42,22 @@ module _ (c : tie.After-enum-told2) where
   table = sym (c .before .before .check-table .ensures) ∙ c .enum-told2 .given .1
 
 check-coder-requires : tie.Need-check-coder-requires
-check-coder-requires c κs = search needs
+check-coder-requires c κs = tt
 
 enum-known-r : tie.Need-enum-known-r
-enum-known-r c = search needs
+enum-known-r c = c .match .keys1
 
 enum-told : tie.Need-enum-told
-enum-told c = search needs
+enum-told c = c .match .keys2
 
 check-table-requires : tie.Need-check-table-requires
 check-table-requires c κs = taken c .allowed
 
 enum-known-r-2 : tie.Need-enum-known-r-2
-enum-known-r-2 c = search needs
+enum-known-r-2 c = c .match2 .keys1
 
 enum-told-2 : tie.Need-enum-told-2
-enum-told-2 c = search needs
+enum-told-2 c = c .match2 .keys2
 
 check-record-requires : tie.Need-check-record-requires
 check-record-requires c κs = (taken (e c) .allowed, table-taken 4 (s (k (e c)) .args .s) (table c))

@@ -1,5 +1,4 @@
 -- `check_record` is the list of checks, test by test.
-use borrow.Author.Needs.{needs}
 use mathlib.Core.Path.{_≡_, refl, sym, _∙_, ap, ap₂, subst₂}
 use mathlib.Core.Bool.{Bool, true}
 use mathlib.Core.List.{List, [], _∷_}
@@ -106,10 +105,10 @@ check-entries-requires : tie.Need-check-entries-requires
 check-entries-requires c κs = (o c .pre .0, o c .pre .1, omega (arith, k-is c, frame (t c) .whole .few))
 
 enum-known-r : tie.Need-enum-known-r
-enum-known-r c = search needs
+enum-known-r c = c .match .keys1
 
 enum-told : tie.Need-enum-told
-enum-told c = search needs
+enum-told c = c .match .keys2
 
 digit-values-requires : tie.Need-digit-values-requires
 digit-values-requires c κs = o (b (c .before .before)) .pre .0
@@ -121,7 +120,7 @@ part-check-blocks-start : tie.Need-part-check-blocks-start
 part-check-blocks-start c = omega (arith, frame (t (b (c .before .before .before))) .there)
 
 part-check-blocks-end : tie.Need-part-check-blocks-end
-part-check-blocks-end c = search needs
+part-check-blocks-end c = omega arith
 
 check-blocks-requires : tie.Need-check-blocks-requires
 check-blocks-requires c κs = let d = b (c .before .before .before .before) in let e = t d in let v = o d in

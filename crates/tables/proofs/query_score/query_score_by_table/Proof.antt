@@ -1,5 +1,4 @@
 -- `query_score_by_table` answers what is refused, and else the total over the record's blocks, each by its part of the table.
-use borrow.Author.Needs.{needs}
 use mathlib.Core.Path.{_≡_, refl, sym, _∙_, ap, subst, subst₂}
 use mathlib.Core.List.{List}
 use Prim.Native.Nat.{ℕ, _*_, _-_, _≤_}
@@ -90,16 +89,16 @@ module _ (c : tie.After-blocks-in) where
   by-numbers P h = subst₂ (λ (z : ℤ) (m : ℕ). P z m (c .blocks-in .result)) (sym q-is) (sym m-is) (subst (P (s a .args .s .q) (m a)) (sym k-is) h)
 
 check-query-by-requires : tie.Need-check-query-by-requires
-check-query-by-requires c κs = search needs
+check-query-by-requires c κs = tt
 
 enum-known-r : tie.Need-enum-known-r
-enum-known-r c = search needs
+enum-known-r c = c .match .keys1
 
 refused-requires : tie.Need-refused-requires
-refused-requires c κs = search needs
+refused-requires c κs = tt
 
 enum-told : tie.Need-enum-told
-enum-told c = search needs
+enum-told c = c .match .keys2
 
 base-requires : tie.Need-base-requires
 base-requires c κs = taken c .taken .allowed
@@ -117,7 +116,7 @@ part-query-total-by-start : tie.Need-part-query-total-by-start
 part-query-total-by-start c = omega (arith, taken (told c) .code .frame .there)
 
 part-query-total-by-end : tie.Need-part-query-total-by-end
-part-query-total-by-end c = search needs
+part-query-total-by-end c = omega arith
 
 query-total-by-requires : tie.Need-query-total-by-requires
 query-total-by-requires c κs = let n = c .before in let r = a n in let h = taken (told n) in

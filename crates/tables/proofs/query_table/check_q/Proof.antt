@@ -1,5 +1,4 @@
 -- `check_q` is the settings' check, then that of q.
-use borrow.Author.Needs.{needs}
 use mathlib.Core.Path.{_≡_, sym, _∙_, ap}
 use mathlib.Core.List.{[], _∷_}
 use Rattle.layers.specs.Laws.Asked.{checked-allowed}
@@ -16,13 +15,13 @@ module _ (c : tie.After-check-settings) where
   decided v e = ap (λ (v : Verdict). firstRefusal (v ∷ checkTable 4 (c .before .args .s) ∷ [])) (sym e ∙ c .check-settings .ensures)
 
 check-settings-requires : tie.Need-check-settings-requires
-check-settings-requires c κs = search needs
+check-settings-requires c κs = tt
 
 enum-known-r : tie.Need-enum-known-r
-enum-known-r c = search needs
+enum-known-r c = c .match .keys1
 
 enum-told : tie.Need-enum-told
-enum-told c = search needs
+enum-told c = c .match .keys2
 
 check-table-requires : tie.Need-check-table-requires
 check-table-requires c κs = let k = c .before .before in checked-allowed (k .before .args .s) (sym (k .check-settings .ensures) ∙ c .enum-told .given .1)

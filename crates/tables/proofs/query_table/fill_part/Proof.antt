@@ -4,7 +4,6 @@ use mathlib.Core.List.{List, _++_, append-nil}
 use Prim.Native.Nat.{ℕ, _+_, _-_, _^_, _<_, _≤_}
 use native.Mathlib.Numerals.{add-one}
 use native.Mathlib.Omega.{arith}
-use borrow.Author.Needs.{needs}
 use lib.Dec.{T}
 use lib.IntN.{ℤ, pos, natAbs}
 use lib.ListN.{length, take, drop, set, length-set, drop-of-length-le}
@@ -21,7 +20,7 @@ use Rattle.layers.specs.Laws.Bases.{base-is, base-two}
 use Rattle.layers.specs.Laws.Entries.{digitsOf-layer}
 use Rattle.layers.specs.Laws.Loops.{write-next}
 use Rattle.tables.specs.Laws.Counting.{digits-zero, counted-next}
-use Rattle.tables.specs.Laws.Entries.{queryPart-long, queryPart-at}
+use Rattle.tables.specs.Laws.Entries.{part-most, queryPart-long, queryPart-at}
 use Rattle.tables.specs.Laws.Sizes.{layerAt-small, queryEntry-small}
 use Rattle.tables.specs.Tables.{countedUp, layerAt, queryPart}
 use Rattle.tables.proofs.query_table.fill_part.Statement.{statement}
@@ -130,10 +129,10 @@ cast-part : tie.Need-cast-part Inv-loop μ-loop
 cast-part c = simp (toZ-ofZ, y-wide c) (y-fits c)
 
 mul-t11 : tie.Need-mul-t11 Inv-loop μ-loop
-mul-t11 c = search needs
+mul-t11 c = let t = l (p c) in omega (arith, within c, s t .pre .4, part-most (q t) (s t .pre .2))
 
 slice-set-from-part : tie.Need-slice-set-from-part Inv-loop μ-loop
-slice-set-from-part c = search needs
+slice-set-from-part c = c .before .before .before .before .before .loop-test .taken
 
 slice-aggregate-count-up : tie.Need-slice-aggregate-count-up Inv-loop μ-loop
 slice-aggregate-count-up c = sym (is-layer (l (p (c .before))) .long)
@@ -142,7 +141,7 @@ count-up-requires : tie.Need-count-up-requires Inv-loop μ-loop
 count-up-requires c κs = let t = l (p (c .before)) in simp (toZ-ofZ, s t .fits .q) (is-layer t .below)
 
 add-i : tie.Need-add-i Inv-loop μ-loop
-add-i c = search needs
+add-i c = let d = c .before .before .before in let b = t d in omega (arith, within d, s b .pre .4, part-most (q b) (s b .pre .2))
 
 loop-less : tie.Need-loop-less Inv-loop μ-loop
 loop-less c = omega (arith, within (c .before .before .before))

@@ -1,5 +1,4 @@
 -- `fill_parts` fills part after part: after i turns those of the first i blocks stand before the rest as found.
-use borrow.Author.Needs.{needs}
 use mathlib.Core.Path.{_≡_, refl, sym, _∙_, ap, ap₂, subst}
 use mathlib.Core.List.{List, _++_, map}
 use Prim.Native.Nat.{ℕ, _+_, _*_, _-_, _^_, _≤_}
@@ -170,7 +169,7 @@ loop-less : tie.Need-loop-less Inv-loop μ-loop
 loop-less c = omega arith
 
 loop-again : tie.Need-loop-again Inv-loop μ-loop
-loop-again c = let p = c .before in (omega arith, search needs, simp (toZ-ofZ, s (t p) .fits .q) (more-is p))
+loop-again c = let p = c .before in (omega arith, c .entries .given .1 ∙ t p .loop .inv .1, simp (toZ-ofZ, s (t p) .fits .q) (more-is p))
 
 same-length : tie.Need-same-length Inv-loop μ-loop
 same-length c = c .before .loop .inv .1

@@ -96,16 +96,16 @@ module _ (c : tie.After-base) where
   q-is = let f : SFits w64 (c .base .result) = record { sfits = c .base .ok } in toZ-ofZ f ∙ c .base .ensures
 
 check-fvecs-query-requires : tie.Need-check-fvecs-query-requires
-check-fvecs-query-requires c κs = search needs
+check-fvecs-query-requires c κs = tt
 
 enum-known-r : tie.Need-enum-known-r
-enum-known-r c = search needs
+enum-known-r c = c .match .keys1
 
 refused-requires : tie.Need-refused-requires
-refused-requires c κs = search needs
+refused-requires c κs = tt
 
 enum-told : tie.Need-enum-told
-enum-told c = search needs
+enum-told c = c .match .keys2
 
 word-at-requires : tie.Need-word-at-requires
 word-at-requires c κs = frame c .there
@@ -114,26 +114,26 @@ cast-n : tie.Need-cast-n
 cast-n c = search needs
 
 slice-aggregate-take-readings : tie.Need-slice-aggregate-take-readings
-slice-aggregate-take-readings c = search needs
+slice-aggregate-take-readings c = refl
 
 take-readings-requires : tie.Need-take-readings-requires
 take-readings-requires c κs = let w = c .before in let f = frame (w .before) in
     (w .word-at .ensures, omega (arith, w .word-at .ensures, f .complete), omega (arith, w .word-at .ensures, f .whole .times, f .whole .few))
 
 enum-known-r-2 : tie.Need-enum-known-r-2
-enum-known-r-2 c = search needs
+enum-known-r-2 c = c .match2 .keys1
 
 refused-requires-2 : tie.Need-refused-requires-2
-refused-requires-2 c κs = search needs
+refused-requires-2 c κs = tt
 
 enum-told-2 : tie.Need-enum-told-2
-enum-told-2 c = search needs
+enum-told-2 c = c .match2 .keys2
 
 sub-fill-units : tie.Need-sub-fill-units
-sub-fill-units c = search needs
+sub-fill-units c = omega arith
 
 part-fill-units-start : tie.Need-part-fill-units-start
-part-fill-units-start c = search needs
+part-fill-units-start c = omega arith
 
 part-fill-units-end : tie.Need-part-fill-units-end
 part-fill-units-end c = enough (c .before)
@@ -159,7 +159,7 @@ returns-2 c = let a = c .before .before .before .before .before in let e = a .be
     let f = filled-refused (s d .args .s) (h d) (out d) _ (checked d Accepted _ (e .enum-told .given .1) (sym (a .take-readings .ensures .0) ∙ c .before .before .r2 .given .1)) in (c .refused2 .ensures ∙ f .0, f .1)
 
 same-length : tie.Need-same-length
-same-length c = search needs
+same-length c = c .entries .given
 
 returns-3 : tie.Need-returns-3
 returns-3 c = let p = c .before in let b = p .before .before in let d = told b in let a = t d in

@@ -1,5 +1,4 @@
 -- `fill_query_table_units` answers what is refused, and else what the core answers on the units themselves.
-use borrow.Author.Needs.{needs}
 use mathlib.Core.Path.{_≡_, sym, _∙_, ap, subst}
 use mathlib.Core.List.{List}
 use Prim.Native.Nat.{ℕ, _*_, _/_, _≤_}
@@ -64,16 +63,16 @@ module _ (c : tie.After-base) where
   q-is = let f : SFits w64 (c .base .result) = record { sfits = c .base .ok } in toZ-ofZ f ∙ c .base .ensures
 
 check-units-query-requires : tie.Need-check-units-query-requires
-check-units-query-requires c κs = search needs
+check-units-query-requires c κs = tt
 
 enum-known-r : tie.Need-enum-known-r
-enum-known-r c = search needs
+enum-known-r c = c .match .keys1
 
 refused-requires : tie.Need-refused-requires
-refused-requires c κs = search needs
+refused-requires c κs = tt
 
 enum-told : tie.Need-enum-told
-enum-told c = search needs
+enum-told c = c .match .keys2
 
 base-requires : tie.Need-base-requires
 base-requires c κs = taken c .allowed
@@ -91,7 +90,7 @@ returns : tie.Need-returns
 returns c = let k = c .before .before .before .before in let f = filled-refused (s k .args .s) (h k) (out k) _ (checked k _ (c .before .before .r .given .1)) in (c .refused .ensures ∙ f .0, f .1)
 
 same-length : tie.Need-same-length
-same-length c = search needs
+same-length c = c .entries .given
 
 returns-2 : tie.Need-returns-2
 returns-2 c = let p = c .before in let b = p .before .before in let t = told b in let a = k t in

@@ -1,5 +1,4 @@
 -- `fill_units` fills as many parts as X has blocks, and answers how many entries these are.
-use borrow.Author.Needs.{needs}
 use mathlib.Core.Path.{_≡_, sym, _∙_, ap, subst}
 use mathlib.Core.List.{List, _++_}
 use Prim.Native.Nat.{ℕ, _*_, _/_, _^_, _≤_}
@@ -68,7 +67,7 @@ cast-t11 : tie.Need-cast-t11
 cast-t11 c = n-fits c
 
 same-length : tie.Need-same-length
-same-length c = search needs
+same-length c = c .before .entries .given
 
 returns : tie.Need-returns
 unfolding queryTable
