@@ -28,10 +28,11 @@ checkEntries n room = unless (leb n room) (Size 2)
 unfoldable pub checkPairTable : Settings → ℕ → Verdict
 checkPairTable c room = firstRefusal (checkSettings c ∷ checkTable pairMost c ∷ checkEntries pairSize room ∷ [])
 
--- the whole answer: how many entries were filled; and the table afterwards
+-- the whole answer: how many entries were filled
 unfoldable pub pairFilled : Settings → ℕ → Answer
 pairFilled c room = valued (checkPairTable c room) (pos pairSize)
 
+-- the lent table afterwards
 unfoldable pub pairTableRoom : Settings → List ℤ → List ℤ
 pairTableRoom c out = written (checkPairTable c (length out)) pairTable out
 
@@ -49,9 +50,10 @@ queryTableAsked c h room = firstRefusal (checkSettings c ∷ checkTable queryMos
 unfoldable pub checkQueryTable : Settings → Hour → ℕ → Verdict
 checkQueryTable c h room = firstRefusal (queryTableAsked c h room ∷ checkReadings 0 (h .readings) ∷ [])
 
--- the whole answer: how many entries were filled; and the table afterwards
+-- the whole answer: how many entries were filled
 unfoldable pub queryFilled : Settings → Hour → ℕ → Answer
 queryFilled c h room = valued (checkQueryTable c h room) (pos (partSize (natAbs (c .q)) * blocksOf h))
 
+-- the lent table afterwards
 unfoldable pub queryTableRoom : Settings → Hour → List ℤ → List ℤ
 queryTableRoom c h out = written (checkQueryTable c h (length out)) (queryTable (natAbs (c .q)) (unitsTaken (h .readings))) out

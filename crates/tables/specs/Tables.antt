@@ -11,17 +11,19 @@ use Rattle.layers.specs.E8.{layerPoint8}
 use Rattle.records.specs.Vectors.{inBlocks}
 use Rattle.scores.specs.Scores.{inner}
 
--- the greatest q that each table is for
+-- the greatest q that the pair table is for
 abbrev pub pairMost : ℕ
 pairMost = 2
 
+-- the greatest q that the query table is for
 abbrev pub queryMost : ℕ
 queryMost = 4
 
--- the entries of the pair table, and of one block's part of the query table: one for each layer point
+-- the entries of the pair table: one for each two layer points
 abbrev pub pairSize : ℕ
 pairSize = 65536
 
+-- the entries of one block's part of the query table: one for each layer point
 unfoldable pub partSize : ℕ → ℕ
 partSize q = q ^ 8
 

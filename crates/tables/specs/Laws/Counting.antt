@@ -12,6 +12,7 @@ use lib.Seq.{take-all, drop-cons, append-snoc, set-split, drop-set-lt, take-suc-
 use Rattle.layers.specs.Digits.{Below, digitsOf}
 use Rattle.tables.specs.Tables.{countedUp}
 
+-- the digits of 0
 pub digits-zero : (q n : ℕ) → digitsOf q n 0 ≡ replicate n 0
 digits-zero q zero = refl
 digits-zero q (suc n) = ap₂ _∷_ (zero-mod q) (ap (digitsOf q n) (zero-div q) ∙ digits-zero q n)
@@ -60,6 +61,7 @@ module _ (q : ℕ) (o : List ℕ) (k : ℕ) (ds : List ℕ) (c : Carrying q o k 
     opened : drop k ds ≡ d ∷ drop (suc k) ds
     opened = drop-cons ds k 0 within
 
+    -- the digit at k is below q
     pub carrying-digit : d < q
     carrying-digit = subst (Below q) opened (c .below) .0
 

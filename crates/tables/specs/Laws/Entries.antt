@@ -25,20 +25,23 @@ from-zero f n i h = range-at f 0 n i (pos 0) h ∙ ap f (omega arith)
 -- ---- a layer's number
 
 module _ (q : ℕ) (ds : List ℕ) (h : IsLayer 8 q ds) where
-  -- it is below q^8, and the layer point of that number is the layer's
+  -- it is below q^8
   pub entry-within : entryOf q ds < partSize q
   unfolding partSize
   entry-within = rw (h .long) at (entryOf-less q ds (h .below))
 
+  -- so the layer point of that number is its own
   pub layerAt-entry : layerAt q (entryOf q ds) ≡ layerPoint8 q ds
   layerAt-entry = ap (layerPoint8 q) (digitsOf-entryOf q 8 ds (h .long) (h .below))
 
 -- ---- the pair table
 
+-- a row has 256 entries
 pub pairRow-long : (e : List ℤ) → length (pairRow e) ≡ 256
 unfolding pairRow
 pairRow-long e = length-map (range 0 256) (λ (j : ℕ). inner e (layerAt 2 j)) ∙ range-long 0 256
 
+-- entry j of the row of a point is its inner product with the layer point j
 pub pairRow-at : (e : List ℤ) (j : ℕ) → j < 256 → «at» (pairRow e) j ≡ inner e (layerAt 2 j)
 unfolding pairRow
 pairRow-at e j h = from-zero (λ (j : ℕ). inner e (layerAt 2 j)) 256 j h
@@ -51,17 +54,20 @@ range-more i n = ap (range i) (add-one n) ∙ go i n
     go i zero = ap (λ (j : ℕ). j ∷ []) (omega arith)
     go i (suc n) = ap (λ (l : List ℕ). i ∷ l) (go (suc i) n ∙ ap (λ (j : ℕ). range (suc i) n ++ (j ∷ [])) (omega arith))
 
--- the first n rows, and one more
+-- the first n rows
 abbrev pub pairRows : ℕ → List ℤ
 pairRows n = joined (map (λ (i : ℕ). pairRow (layerAt 2 i)) (range 0 n))
 
+-- one row more
 pub rows-more : (n : ℕ) → pairRows (n + 1) ≡ pairRows n ++ pairRow (layerAt 2 n)
 rows-more n = ap (λ (l : List ℕ). joined (map (λ (i : ℕ). pairRow (layerAt 2 i)) l)) (range-more 0 n ∙ ap (λ (j : ℕ). range 0 n ++ (j ∷ [])) (omega arith)) ∙ joined-more (λ (i : ℕ). pairRow (layerAt 2 i)) (range 0 n) n
 
+-- all rows are the table
 pub rows-all : pairRows 256 ≡ pairTable
 unfolding pairTable
 rows-all = refl
 
+-- which has 65,536 entries
 pub pairTable-long : length pairTable ≡ 65536
 unfolding pairTable
 pairTable-long = rows-long (λ (i : ℕ). pairRow (layerAt 2 i)) 256 (λ i. pairRow-long (layerAt 2 i)) 0 256
@@ -80,15 +86,18 @@ pairTable-at rest i j h k =
 -- ---- the query table
 
 module _ (q : ℕ) where
+  -- a part has q^8 entries
   pub queryPart-long : (X : List ℤ) → length (queryPart q X) ≡ partSize q
   unfolding queryPart
   queryPart-long X = length-map (range 0 (partSize q)) _ ∙ range-long 0 (partSize q)
 
+  -- its entry i is the sum over the layer point i
   pub queryPart-at : (X : List ℤ) (i : ℕ) → i < partSize q → «at» (queryPart q X) i ≡ dot X (layerAt q i)
   unfolding queryPart
   queryPart-at X i h = from-zero (λ (i : ℕ). dot X (layerAt q i)) (partSize q) i h
 
   module _ (X : List ℤ) where
+    -- the table has K·q^8 entries
     pub queryTable-long : length (queryTable q X) ≡ partSize q * (length X / 8)
     unfolding queryTable
     queryTable-long = go (inBlocks X) ∙ ap (λ (n : ℕ). partSize q * n) (cut-long 8 (length X / 8) X)

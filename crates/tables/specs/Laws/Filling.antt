@@ -32,9 +32,11 @@ first-group (Refused r ∷ a) b c = refl
 
 -- ---- one check
 
+-- q is one that the table is for
 pub table-taken : (most : ℕ) (c : Settings) → checkTable most c ≡ Accepted → natAbs (c .q) ≤ most
 table-taken most c e = leb-true (natAbs (c .q)) most (unless-accepted _ Table e)
 
+-- the table is long enough
 pub entries-taken : (n room : ℕ) → checkEntries n room ≡ Accepted → n ≤ room
 entries-taken n room e = leb-true n room (unless-accepted _ (Size 2) e)
 
@@ -52,6 +54,7 @@ module _ (c : Settings) (room : ℕ) where
     pub two : natAbs (c .q) ≤ pairMost
     pub fits : pairSize ≤ room
 
+  -- an accepted filling has them
   pub pair-table-taken : checkPairTable c room ≡ Accepted → PairTableTaken
   unfolding checkPairTable
   pair-table-taken e =
@@ -96,6 +99,7 @@ module _ (c : Settings) where
       pub taken : readings ≡ Accepted
       pub fits : partSize q * blocksOf h ≤ room
 
+    -- an accepted filling has them
     pub query-table-taken : Sound h → checkQueryTable c h room ≡ Accepted → QueryTableTaken
     unfolding checkQueryTable queryTableAsked
     query-table-taken sound e =
@@ -125,6 +129,7 @@ module _ (c : Settings) (h : Hour) (out : List ℤ) where
   abbrev K : ℕ
   K = blocksOf h
 
+  -- where it is refused
   pub filled-refused : (r : Refusal) → checkQueryTable c h (length out) ≡ Refused r → (valued (Refused r) (pos 0) ≡ queryFilled c h (length out)) × (out ≡ queryTableRoom c h out)
   unfolding queryFilled queryTableRoom
   filled-refused r e = (
@@ -132,7 +137,7 @@ module _ (c : Settings) (h : Hour) (out : List ℤ) where
     ap (λ (v : Verdict). written v (queryTable (natAbs (c .q)) (unitsTaken (h .readings))) out) (sym e),
   )
 
-  -- with X the units of its readings
+  -- where it is accepted, with X the units of its readings
   pub filled-accepted : (X : List ℤ) → unitsTaken (h .readings) ≡ X → length X ≡ length (h .readings) → checkQueryTable c h (length out) ≡ Accepted
       → (valued Accepted (pos (partSize (natAbs (c .q)) * (length X / 8))) ≡ queryFilled c h (length out)) × (written Accepted (queryTable (natAbs (c .q)) X) out ≡ queryTableRoom c h out)
   unfolding queryFilled queryTableRoom

@@ -73,11 +73,13 @@ module _ (c : Settings) (steps : List ℤ) (b : List ℕ) (steps′ : List ℤ) 
       ap₂ (λ (t l : Verdict). firstRefusal (before ++ (t ∷ l ∷ here ∷ there ∷ []))) e f
       ∙ first-without before (Accepted ∷ here ∷ there ∷ []) ∙ first-without before (here ∷ there ∷ [])
 
+  -- settings for the table, both records, and a table that is long enough
   pub record PairByTaken : Type 0 where
     pub pair : PairTaken c steps b steps′ b′
     pub two : c .q ≡ pos 2
     pub fits : pairSize ≤ room
 
+  -- the table's own checks accept
   table-accepted : checkPairBy c steps b steps′ b′ room ≡ Accepted → (table ≡ Accepted) × (long ≡ Accepted)
   table-accepted e =
       let lent : Verdict = firstRefusal (table ∷ long ∷ []) in let codes : Verdict = firstRefusal (here ∷ there ∷ []) in
@@ -85,6 +87,7 @@ module _ (c : Settings) (steps : List ℤ) (b : List ℕ) (steps′ : List ℤ) 
       let l = first-accepted (checkSteps 1 steps′) (lent ∷ codes ∷ []) (s .1) in let t = first-accepted lent (codes ∷ []) (l .1) in
       let u = first-accepted table (long ∷ []) (t .0) in (u .0, first-accepted long [] (u .1) .0)
 
+  -- an accepted score has them
   pub pair-by-taken : checkPairBy c steps b steps′ b′ room ≡ Accepted → PairByTaken
   pair-by-taken e =
       let t = table-accepted e in let p = pair-taken c steps b steps′ b′ (sym (pair-by-same (t .0) (t .1)) ∙ e) in let a = p .first .allowed in
@@ -100,6 +103,7 @@ module _ (steps q m : ℕ) (b : List ℕ) (room : ℕ) where
   unfolding recordBy
   record-by-is f w e g = ap₂ (λ (f : Bool) (w : Verdict). firstRefusal (unless f (Record 0) ∷ w ∷ checkBlocks steps q (blockSize m) 0 (codeBlocks m b) ∷ [])) e g
 
+  -- an accepted record is a good one, and the table is long enough for it
   pub record-by-taken : recordBy steps q m b room ≡ Accepted → RecordTaken steps q m 1 blocksMost b × (partSize q * blocksIn m b ≤ room)
   unfolding recordBy
   record-by-taken e =
@@ -117,12 +121,14 @@ module _ (c : Settings) (steps : List ℤ) (b : List ℕ) (room : ℕ) where
   query-by-is v w d e =
       first-append (checkSettings c ∷ checkSteps 0 steps ∷ []) (checkTable queryMost c ∷ rest ∷ []) ∙ ap₂ (λ (v w : Verdict). firstRefusal (v ∷ w ∷ rest ∷ [])) d e
 
+  -- settings for the table, the record, and a table that is long enough
   pub record QueryByTaken : Type 0 where
     pub taken : CoderTaken c steps
     pub most : natAbs (c .q) ≤ queryMost
     pub code : RecordTaken (length steps) (natAbs (c .q)) (natAbs (c .m)) 1 blocksMost b
     pub fits : partSize (natAbs (c .q)) * blocksIn (natAbs (c .m)) b ≤ room
 
+  -- an accepted score has them
   pub query-by-taken : checkQueryBy c steps b room ≡ Accepted → QueryByTaken
   unfolding checkQueryBy
   query-by-taken e =

@@ -17,9 +17,11 @@ use Rattle.scores.specs.Scores.{inner}
 use Rattle.tables.specs.Tables.{queryMost, layerAt}
 
 module _ (q : ℕ) (q> : 0 < q) (i : ℕ) where
+  -- it is a point of the lattice
   pub layerAt-in : E8 (layerAt q i)
   layerAt-in = layerPoint-in e8 nearest q q> (digitsOf q 8 i) (digitsOf-layer q q> 8 i)
 
+  -- of eight coordinates, each at most 2 q
   pub layerAt-sized : Sized 8 (2 * q) (layerAt q i)
   layerAt-sized = record { long = layerAt-in .long; small = layerPoint-small e8 nearest q q> (digitsOf q 8 i) (digitsOf-layer q q> 8 i) }
 

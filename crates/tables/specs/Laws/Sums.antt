@@ -32,8 +32,9 @@ none q = simp ints (omega arith)
 both : (q : ℕ) (x y : ℤ) → pos q *ℤ x +ℤ pos q *ℤ y ≡ pos q *ℤ (x +ℤ y)
 both q = byD₂ _ λ _ _ _ _. simp ints (omega arith)
 
--- a sum over layers, and one over pairs of layers, are such sums
+-- sums over layers are such sums
 module _ (q : ℕ) where
+  -- over those of one block
   pub layer-power : (f : List ℕ → ℤ) (l : List (List ℕ)) → layerSum q 0 f l ≡ powerSum q (map f l)
   layer-power f [] = refl
   layer-power f (ds ∷ l) =
@@ -44,17 +45,20 @@ module _ (q : ℕ) where
     pairSum-up i [] = none q
     pairSum-up i (ds ∷ a) = ap₂ _+ℤ_ (layerSum-up q (f ds) i b) (pairSum-up (suc i) a) ∙ both q (layerSum q i (f ds) b) (pairSum q (suc i) f a b)
 
+    -- over each of one with each of another
     pub pair-power : (a : List (List ℕ)) → pairSum q 0 f a b ≡ powerSum q (map (λ (d : List ℕ). powerSum q (map (f d) b)) a)
     pair-power [] = refl
     pair-power (ds ∷ a) = ap₂ _+ℤ_ (layer-power (f ds) b) (pairSum-up 0 a ∙ ap (λ (t : ℤ). pos q *ℤ t) (pair-power a))
 
 -- sums of equal terms over layers are equal
 module _ (q : ℕ) where
+  -- over those of one block
   pub layer-same : (f g : List ℕ → ℤ) → ((d : List ℕ) → IsLayer 8 q d → f d ≡ g d) → (i m : ℕ) (l : List (List ℕ)) → IsLayers 8 q m l → layerSum q i f l ≡ layerSum q i g l
   layer-same f g e i m [] h = refl
   layer-same f g e i zero (d ∷ l) h = absurd h
   layer-same f g e i (suc m) (d ∷ l) h = ap₂ (λ (x t : ℤ). pos (q ^ i) *ℤ x +ℤ t) (e d (h .0)) (layer-same f g e (suc i) m l (h .1))
 
+  -- over each of one with each of another
   pub pair-same : (f g : List ℕ → List ℕ → ℤ) → ((d e : List ℕ) → IsLayer 8 q d → IsLayer 8 q e → f d e ≡ g d e) → (i m : ℕ) (a b : List (List ℕ)) → IsLayers 8 q m a → (m′ : ℕ) → IsLayers 8 q m′ b
       → pairSum q i f a b ≡ pairSum q i g a b
   pair-same f g e i m [] b h m′ k = refl
@@ -68,6 +72,7 @@ pub record Summed (q B : ℕ) (l : List ℤ) (i : ℕ) (z : ℤ) : Type 0 where
   pub small : natAbs z + B ≤ B * q ^ (length l - i)
 
 module _ (q B : ℕ) (l : List ℤ) where
+  -- before the last term it is 0
   pub summed-none : (n : ℕ) → length l ≡ n → Summed q B l n (pos 0)
   summed-none n h = let e : length l - n ≡ 0 = omega arith in
       record { within = omega arith; is = ap (powerSum q) (sym (drop-of-length-le l {i = n} (omega arith))); small = rw (e, pow-zero q) (omega arith) }
@@ -90,14 +95,16 @@ module _ (q B : ℕ) (l : List ℤ) where
     pub summed-all : i ≡ 0 → z ≡ powerSum q l
     summed-all e = s .is ∙ ap (λ (n : ℕ). powerSum q (drop n l)) e
 
--- the terms of m layers: their number, and the one of layer j
+-- the terms of m layers
 module _ (g : List ℕ → ℤ) (m : ℕ) (ds : List ℕ) where
   abbrev pub terms : List ℤ
   terms = map g (cut 8 m ds)
 
+  -- one for each
   pub terms-long : length terms ≡ m
   terms-long = length-map (cut 8 m ds) g ∙ cut-long 8 m ds
 
+  -- that of layer j
   pub terms-at : (j : ℕ) → j < m → «at» terms j ≡ g (take 8 (drop (8 * j) ds))
   terms-at j h = map-at g (cut 8 m ds) j [] (pos 0) (omega (arith, cut-long 8 m ds)) ∙ ap g (cut-at 8 m j ds h)
 

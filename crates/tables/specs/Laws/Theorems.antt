@@ -1,10 +1,11 @@
 -- What filling and scoring by table say: an accepted table holds 01's entries, and over it the whole answer is that of the plain score; a null is refused by its place.
 use mathlib.Core.Path.{_≡_, refl, sym, _∙_, ap, subst}
-use mathlib.Core.Bool.{Bool}
+use mathlib.Core.Bool.{Bool, true}
 use mathlib.Core.List.{List, [], _++_}
 use Prim.Native.Nat.{ℕ, _+_, _*_, _/_, _<_, _≤_}
 use native.Mathlib.Omega.{arith}
 use borrow.Author.Tests.{le-leb}
+use lib.Ieee.{binary32, nanBits}
 use lib.IntN.{ℤ, pos, natAbs}
 use lib.ListN.{length, getD, take, drop, length-append, length-drop}
 use lib.Seq.{drop-at}
@@ -12,11 +13,13 @@ use Rattle.integers.specs.Vectors.{«at», dot}
 use Rattle.layers.specs.Digits.{IsCode}
 use Rattle.readings.specs.declared.Measured.{Measured}
 use Rattle.readings.specs.declared.Measured.the-variants as measured
+use Rattle.readings.specs.Words.{wordAt, measureAt}
 use Rattle.records.specs.Codes.{blocksIn, codeBlocks}
 use Rattle.records.specs.Laws.Frames.{Whole, blocks-whole}
-use Rattle.records.specs.Laws.Hours.{Sound}
+use Rattle.records.specs.Laws.Hours.{Sound, fvecs-count, fvecs-reading}
+use Rattle.records.specs.Laws.Theorems.{nan-missing}
 use Rattle.records.specs.Laws.Vectors.{AllUnits, first-missing, first-beyond}
-use Rattle.records.specs.Vectors.{Hour, checkReadings, unitsTaken, blocksOf}
+use Rattle.records.specs.Vectors.{Hour, fvecsHour, checkReadings, unitsTaken, blocksOf}
 use Rattle.refusals.specs.declared.settings.Settings.{Settings}
 use Rattle.refusals.specs.declared.Refusal.{Refusal}
 use Rattle.refusals.specs.declared.Refusal.the-variants.{Table, Size, Missing, OutOfRange}
@@ -94,14 +97,16 @@ module _ (c : Settings) (h : Hour) (out : List ℤ) where
   unfolding queryTableRoom
   query-refused r e = ap (λ (v : Verdict). written v (queryTable (natAbs (c .q)) (unitsTaken (h .readings))) out) e
 
-  -- the first reading that is missing is named by 4, the first that is out of range by 5
+  -- where all else is allowed, the verdict is that of the readings
   module _ (asked : queryTableAsked c h (length out) ≡ Accepted) (i : ℕ) (d : Measured) (within : i < length (h .readings)) (before : AllUnits i (h .readings) d) where
     last : (r : Refusal) → checkReadings 0 (h .readings) ≡ Refused r → checkQueryTable c h (length out) ≡ Refused r
     last r e = query-table-is c h (length out) Accepted asked ∙ first-last (checkReadings 0 (h .readings)) ∙ e
 
+    -- the first that is missing is named by 4
     pub null-refused : getD (h .readings) i d ≡ measured.Missing → checkQueryTable c h (length out) ≡ Refused (Missing i)
     null-refused e = last (Missing i) (first-missing i (h .readings) d within before e)
 
+    -- the first that is out of range by 5
     pub beyond-refused : getD (h .readings) i d ≡ measured.OutOfRange → checkQueryTable c h (length out) ≡ Refused (OutOfRange i)
     beyond-refused e = last (OutOfRange i) (first-beyond i (h .readings) d within before e)
 
@@ -115,6 +120,7 @@ module _ (c : Settings) (h : Hour) (out : List ℤ) where
     abbrev K : ℕ
     K = blocksOf h
 
+    -- what was filled in was allowed, and taken whole
     pub fill-taken : QueryTableTaken c h (length out)
     fill-taken = query-table-taken c h (length out) sound ok
 
@@ -143,6 +149,12 @@ module _ (c : Settings) (h : Hour) (out : List ℤ) where
     -- its length does
     pub query-long : length (queryTableRoom c h out) ≡ length out
     query-long = ap length (query-filled .1) ∙ simp (length-append, length-drop) (omega (arith, table-long, fill-taken .fits))
+
+-- the first NaN of a query that is an fvecs record is named by 4
+pub nan-refused : (c : Settings) (r : List ℕ) (out : List ℤ) (i : ℕ) → queryTableAsked c (fvecsHour r) (length out) ≡ Accepted → i < wordAt r 0
+    → ((j : ℕ) → j < i → (X : ℤ) × (measureAt r (4 + 4 * j) ≡ measured.Units X)) → nanBits binary32 (wordAt r (4 + 4 * i)) ≡ true → checkQueryTable c (fvecsHour r) (length out) ≡ Refused (Missing i)
+nan-refused c r out i asked h before e = let d : Measured = measured.Missing in
+    null-refused c (fvecsHour r) out asked i d (omega (arith, fvecs-count r)) (λ j k. (before j k .0, fvecs-reading r j d (omega arith) ∙ before j k .1)) (fvecs-reading r i d h ∙ nan-missing r i e)
 
 -- ---- scoring by it
 
