@@ -90,8 +90,8 @@ pub struct ValueAnswer {
 impl From<Answer<usize>> for ValueAnswer {
     /// The expected number of bytes in the library's form.
     fn from(answer: Answer<usize>) -> Self {
-        let (Refusal { number, place }, length) = parted(answer, 0);
-        ValueAnswer { number, place, value: length as i64 }
+        let (Refusal { number, place }, written) = parted(answer, 0);
+        ValueAnswer { number, place, value: written as i64 }
     }
 }
 

@@ -12,16 +12,11 @@ mod showing;
 mod tables;
 
 use crate::layers::Settings;
-use crate::refusals::{Answer, Refusal};
+use crate::refusals::refused;
 
 /// Settings q and M.
 fn settings(q: i32, m: i32) -> Settings {
     Settings { q, m }
-}
-
-/// The answer that refuses with this number and place.
-fn refused<V>(number: u64, place: u64) -> Answer<V> {
-    Err(Refusal { number, place })
 }
 
 /// Eight numbers that begin so and end in zeros.
