@@ -83,15 +83,22 @@ impl From<Answer<Point>> for PointAnswer {
 pub struct ValueAnswer {
     number: u64,
     place: u64,
-    /// The number of bytes written, or 0 with a refusal.
+    /// The score, or the number of bytes or entries written, or 0 with a refusal.
     pub value: i64,
 }
 
+impl From<Answer<i64>> for ValueAnswer {
+    /// The expected score in the library's form.
+    fn from(answer: Answer<i64>) -> Self {
+        let (Refusal { number, place }, value) = parted(answer, 0);
+        ValueAnswer { number, place, value }
+    }
+}
+
 impl From<Answer<usize>> for ValueAnswer {
-    /// The expected number of bytes in the library's form.
+    /// The expected number of bytes or entries in the library's form.
     fn from(answer: Answer<usize>) -> Self {
-        let (Refusal { number, place }, written) = parted(answer, 0);
-        ValueAnswer { number, place, value: written as i64 }
+        answer.map(|written| written as i64).into()
     }
 }
 

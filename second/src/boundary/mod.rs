@@ -3,9 +3,11 @@
 pub mod answers;
 mod points;
 mod records;
+mod scores;
 
 pub use points::{digits_of_point, nearest, point_of_digits, take_bits, take_units};
 pub use records::{decode, encode, encode_units, report};
+pub use scores::{pair_score, query_score};
 
 /// A slice as C is lent it: its pointer and its length.
 fn parts<E>(slice: &[E]) -> (*const E, usize) {

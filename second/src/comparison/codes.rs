@@ -30,6 +30,17 @@ pub fn bits_turned(dimension: u32) -> [u32; 32] {
 }
 
 impl<R: Entry, A: Debug + PartialEq> Operation<u8, R, A> {
+    /// A few blocks, with a code record or a store that is damaged in every way below.
+    pub fn damaged_codes(&self, group: &mut Group, seed: u64, rounds: u64, input: usize) {
+        let random = &mut Random::new(seed);
+        self.every_dimension(group, random, input, 2);
+        self.dimension_bits(group, random, input, 2);
+        self.codes_cut_anywhere(group, random, input);
+        self.bad_bytes(group, random, input);
+        self.several_bad_bytes(group, random, rounds, input);
+        self.any_bytes(group, random, rounds, input);
+    }
+
     /// Every dimension from 0 to past the greatest, those of other M and of K = 0 and 65 among them, before zeros enough and
     /// before just as many.
     pub fn every_dimension(&self, group: &mut Group, random: &mut Random, input: usize, blocks: usize) {

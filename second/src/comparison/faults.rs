@@ -2,6 +2,7 @@
 
 use std::fmt::Debug;
 
+use second::built::bvecs;
 use second::drawn::{REFUSED_SETTINGS, REFUSED_STEPS};
 use second::lent::Entry;
 use second::random::Random;
@@ -116,6 +117,37 @@ pub fn bad_digit<const INPUT: usize, R>(random: &mut Random, asked: &mut Asked<u
 pub fn bad_t<const INPUT: usize, R: Entry>(random: &mut Random, asked: &mut Asked<u8, R>) {
     let place = any_block(random, asked, INPUT);
     asked.inputs[INPUT][place] = asked.list_of(INPUT).len() as u8;
+}
+
+/// Any code record of an input with one block more, or with one block less.
+pub fn other_count<const INPUT: usize, R>(random: &mut Random, asked: &mut Asked<u8, R>) {
+    let (start, record) = (any_record(random, asked, INPUT), record_bytes(&asked.inputs[INPUT]));
+    let block = block_bytes(asked);
+    let least = if record - 4 > block { record - 4 - block } else { record - 4 + block };
+    let length = random.pick(&[least, record - 4 + block]);
+    let mut body = asked.inputs[INPUT][start + 4..start + record].to_vec();
+    body.resize(length, 0);
+    asked.inputs[INPUT].splice(start..start + record, bvecs(&body));
+}
+
+/// Puts one of these faults into what is asked.
+fn any_fault<I, R>(random: &mut Random, asked: &mut Asked<I, R>, faults: &[Fault<I, R>]) {
+    random.pick(faults)(random, asked);
+}
+
+/// A digit that is not below q or a T past the list, in any block.
+pub fn bad_byte<const INPUT: usize, R: Entry>(random: &mut Random, asked: &mut Asked<u8, R>) {
+    any_fault(random, asked, &[bad_digit::<INPUT, R>, bad_t::<INPUT, R>]);
+}
+
+/// A record with a dimension that is right for none, or cut at any byte.
+pub fn bad_frame<const INPUT: usize, R>(random: &mut Random, asked: &mut Asked<u8, R>) {
+    any_fault(random, asked, &[wrong_dimension::<INPUT, R>, cut_short::<INPUT, R>]);
+}
+
+/// A code record with a dimension that is right for none or for another K, or cut at any byte.
+pub fn other_frame<const INPUT: usize, R>(random: &mut Random, asked: &mut Asked<u8, R>) {
+    any_fault(random, asked, &[wrong_dimension::<INPUT, R>, cut_short::<INPUT, R>, other_count::<INPUT, R>]);
 }
 
 impl<I: Entry, R: Entry, A: Debug + PartialEq> Operation<I, R, A> {

@@ -9,6 +9,7 @@ mod layers;
 mod nearest;
 mod operations;
 mod records;
+mod scores;
 mod sweeps;
 pub mod taking;
 mod vectors;
@@ -25,7 +26,7 @@ const LONGEST_PRINT: usize = 6_000;
 pub type Work = fn(&mut Group, u64);
 
 /// All groups, the lowest floor's first.
-pub const GROUPS: [&[(&str, Work)]; 11] = [
+pub const GROUPS: [&[(&str, Work)]; 15] = [
     taking::GROUPS,
     nearest::GROUPS,
     layers::GROUPS,
@@ -37,6 +38,10 @@ pub const GROUPS: [&[(&str, Work)]; 11] = [
     records::faults::GROUPS,
     records::reports::GROUPS,
     records::round_trips::GROUPS,
+    scores::orders::GROUPS,
+    scores::pairs::GROUPS,
+    scores::queries::GROUPS,
+    scores::laws::GROUPS,
 ];
 
 /// A group of comparisons: its name and what came of it.

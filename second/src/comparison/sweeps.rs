@@ -20,6 +20,15 @@ impl<I: Entry, R: Entry, A: Debug + PartialEq> Operation<I, R, A> {
         }
     }
 
+    /// What is accepted, of one to four blocks at every setting.
+    pub fn few_blocks(&self, group: &mut Group, seed: u64, rounds: u64) {
+        let mut random = Random::new(seed);
+        for layout in self.layouts().repeat(rounds as usize) {
+            let blocks = 1 + random.place(self.most_blocks(layout).min(4));
+            self.compare(group, &(self.drawn)(&mut random, layout, blocks));
+        }
+    }
+
     /// What is accepted but for its settings, which are each of the refused and of the allowed ones.
     pub fn every_setting(&self, group: &mut Group, seed: u64) {
         let mut random = Random::new(seed);

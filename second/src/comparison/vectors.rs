@@ -53,6 +53,16 @@ impl<R: Entry, A: Debug + PartialEq> Operation<u8, R, A> {
         SOME_LAYOUTS.into_iter().filter(|layout| layout.q <= self.greatest_q)
     }
 
+    /// A vector that is damaged in every way below, for an operation that takes few blocks.
+    pub fn damaged_vectors(&self, group: &mut Group, seed: u64, rounds: u64) {
+        let random = &mut Random::new(seed);
+        self.every_reading_count(group, random, 1);
+        self.reading_count_bits(group, random, 1);
+        self.vectors_cut_anywhere(group, random);
+        self.bad_readings(group, random);
+        self.several_bad_readings(group, random, rounds);
+    }
+
     /// Every dimension from 0 to past the greatest and some far ones, before as many readings as 530 or fewer by 1.
     pub fn every_reading_count(&self, group: &mut Group, random: &mut Random, blocks: usize) {
         let far = [576, 1_024, 1_032, 65_536 + 8, 1 << 24, 1 << 31, (1 << 31) + 8, u32::MAX - 7, u32::MAX];
