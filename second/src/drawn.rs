@@ -4,6 +4,7 @@
 use crate::built::{bvecs, fvecs_of_patterns, fvecs_of_units};
 use crate::lattice::Point;
 use crate::layers::{layer_point, whole_point, Layout, Settings};
+use crate::lent::Entry;
 use crate::random::Random;
 
 /// Settings that are refused.
@@ -175,4 +176,14 @@ pub fn drawn_query(random: &mut Random, blocks: usize) -> Vec<u8> {
     };
     let patterns: Vec<u32> = (0..8 * blocks).map(pattern).collect();
     fvecs_of_patterns(&patterns)
+}
+
+/// A table of so many entries of any kind, the least and the greatest often among them.
+pub fn drawn_table<E: Entry>(random: &mut Random, length: usize) -> Vec<E> {
+    let bits = |drawn: u64| match drawn % 8 {
+        0 => 1 << 63,
+        1 => u64::MAX >> 1,
+        _ => drawn,
+    };
+    (0..length).map(|_| E::of_high_bits(bits(random.draw()))).collect()
 }

@@ -3,7 +3,7 @@
 use std::fmt::Debug;
 
 use second::built::bvecs;
-use second::drawn::{REFUSED_SETTINGS, REFUSED_STEPS};
+use second::drawn::{allowed_layouts, lent, REFUSED_SETTINGS, REFUSED_STEPS};
 use second::lent::Entry;
 use second::random::Random;
 
@@ -16,6 +16,13 @@ pub type Fault<I, R> = fn(&mut Random, &mut Asked<I, R>);
 /// Settings that are refused.
 pub fn bad_settings<I, R>(random: &mut Random, asked: &mut Asked<I, R>) {
     asked.settings = random.pick(&REFUSED_SETTINGS);
+}
+
+/// Settings that are allowed, with a q past this one, for which there is no table.
+pub fn other_q<const GREATEST: i64, I, R>(random: &mut Random, asked: &mut Asked<I, R>) {
+    let mut others = allowed_layouts();
+    others.retain(|layout| layout.q > GREATEST && layout.layers == asked.settings.m as usize);
+    asked.settings = lent(random.pick(&others));
 }
 
 /// A step list that is refused.

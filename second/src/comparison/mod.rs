@@ -11,6 +11,7 @@ mod operations;
 mod records;
 mod scores;
 mod sweeps;
+mod tables;
 pub mod taking;
 mod vectors;
 
@@ -26,7 +27,7 @@ const LONGEST_PRINT: usize = 6_000;
 pub type Work = fn(&mut Group, u64);
 
 /// All groups, the lowest floor's first.
-pub const GROUPS: [&[(&str, Work)]; 15] = [
+pub const GROUPS: [&[(&str, Work)]; 20] = [
     taking::GROUPS,
     nearest::GROUPS,
     layers::GROUPS,
@@ -42,6 +43,11 @@ pub const GROUPS: [&[(&str, Work)]; 15] = [
     scores::pairs::GROUPS,
     scores::queries::GROUPS,
     scores::laws::GROUPS,
+    tables::orders::GROUPS,
+    tables::filling::GROUPS,
+    tables::rooms::GROUPS,
+    tables::scoring::GROUPS,
+    tables::laws::GROUPS,
 ];
 
 /// A group of comparisons: its name and what came of it.
