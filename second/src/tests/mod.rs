@@ -5,10 +5,13 @@ mod drawn;
 mod edges;
 mod lattice;
 mod layers;
+mod lent;
 mod orders;
 mod readings;
 mod records;
+mod scores;
 mod showing;
+mod stores;
 mod tables;
 
 use crate::layers::Settings;
