@@ -5,6 +5,7 @@ use second::layers::Settings;
 use second::readings::{value_of_units, Taken};
 use second::records::Reported;
 use second::refusals::{Answer, Refusal, MISSING, OUT_OF_RANGE};
+use second::stores::Hour;
 
 /// The header's `ek_settings`.
 #[repr(C)]
@@ -99,6 +100,24 @@ impl From<Answer<usize>> for ValueAnswer {
     /// The expected number of bytes or entries in the library's form.
     fn from(answer: Answer<usize>) -> Self {
         answer.map(|written| written as i64).into()
+    }
+}
+
+/// The header's `ek_hour`.
+#[repr(C)]
+#[derive(Clone, Copy, Debug, PartialEq, Eq)]
+pub struct HourAnswer {
+    number: u64,
+    place: u64,
+    hour: u64,
+    score: i64,
+}
+
+impl From<Answer<Hour>> for HourAnswer {
+    /// The expected hour in the library's form.
+    fn from(answer: Answer<Hour>) -> Self {
+        let (Refusal { number, place }, Hour { hour, score }) = parted(answer, Hour { hour: 0, score: 0 });
+        HourAnswer { number, place, hour, score }
     }
 }
 

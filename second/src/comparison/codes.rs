@@ -33,24 +33,24 @@ impl<R: Entry, A: Debug + PartialEq> Operation<u8, R, A> {
     /// A few blocks, with a code record or a store that is damaged in every way below.
     pub fn damaged_codes(&self, group: &mut Group, seed: u64, rounds: u64, input: usize) {
         let random = &mut Random::new(seed);
-        self.every_dimension(group, random, input, 2);
-        self.dimension_bits(group, random, input, 2);
+        self.every_dimension(group, random, input, 1);
+        self.dimension_bits(group, random, input, 1);
         self.codes_cut_anywhere(group, random, input);
-        self.bad_bytes(group, random, input);
+        self.bad_bytes(group, random, input, 2);
         self.several_bad_bytes(group, random, rounds, input);
         self.any_bytes(group, random, rounds, input);
     }
 
-    /// Every dimension from 0 to past the greatest, those of other M and of K = 0 and 65 among them, before zeros enough and
-    /// before just as many.
+    /// Every dimension from 0 to past the greatest, those of other M and of K = 0 and 65 among them, before zeros enough, before
+    /// just as many, and before bytes that are wrong.
     pub fn every_dimension(&self, group: &mut Group, random: &mut Random, input: usize, blocks: usize) {
-        let zeros = [0; (MOST_BLOCKS + 1) * MOST_BLOCK_BYTES + 1];
-        for layout in self.layouts() {
+        let longest = (MOST_BLOCKS + 1) * MOST_BLOCK_BYTES + 1;
+        for layout in self.light_layouts() {
             let mut asked = (self.drawn)(random, layout, blocks);
             let far = [1 << 16, (1 << 16) + layout.block_bytes(), 1 << 24, 1 << 31, u32::MAX as usize];
             for dimension in (0..=(MOST_BLOCKS + 1) * layout.block_bytes() + 1).chain(far) {
-                for length in [dimension.min(zeros.len()), zeros.len()] {
-                    asked.inputs[input] = record(dimension as u32, &zeros[..length]);
+                for (byte, length) in [(0, longest), (0, dimension.min(longest)), (255, longest)] {
+                    asked.inputs[input] = record(dimension as u32, &vec![byte; length]);
                     self.compare(group, &asked);
                 }
             }
@@ -59,7 +59,7 @@ impl<R: Entry, A: Debug + PartialEq> Operation<u8, R, A> {
 
     /// Good dimensions with each one of their bits turned over, before zeros enough for every allowed K.
     pub fn dimension_bits(&self, group: &mut Group, random: &mut Random, input: usize, blocks: usize) {
-        for layout in self.layouts() {
+        for layout in self.light_layouts() {
             let mut asked = (self.drawn)(random, layout, blocks);
             for dimension in [1, 2, 7, 32, 63, 64].map(|k| (k * layout.block_bytes()) as u32).map(bits_turned).concat()
             {
@@ -71,7 +71,7 @@ impl<R: Entry, A: Debug + PartialEq> Operation<u8, R, A> {
 
     /// Records of one to three blocks, cut at every byte, and whole.
     pub fn codes_cut_anywhere(&self, group: &mut Group, random: &mut Random, input: usize) {
-        for layout in self.layouts() {
+        for layout in self.light_layouts() {
             for blocks in 1..=3 {
                 let mut asked = (self.drawn)(random, layout, blocks);
                 let whole = asked.inputs[input].clone();
@@ -83,10 +83,10 @@ impl<R: Entry, A: Debug + PartialEq> Operation<u8, R, A> {
         }
     }
 
-    /// Records of three blocks with one T at the list's length or past it, or one digit of q or more, at each place in turn.
-    pub fn bad_bytes(&self, group: &mut Group, random: &mut Random, input: usize) {
-        for layout in self.layouts() {
-            let good = (self.drawn)(random, layout, 3);
+    /// Records of so many blocks with one T at the list's length or past it, or one digit of q or more, at each place in turn.
+    pub fn bad_bytes(&self, group: &mut Group, random: &mut Random, input: usize, blocks: usize) {
+        for layout in self.light_layouts() {
+            let good = (self.drawn)(random, layout, blocks);
             for place in 4..good.inputs[input].len() {
                 let (mut asked, limit) = (good.clone(), limit(&good, input, place));
                 for damage in [limit - 1, limit, limit + 1, 127, 128, 255] {
@@ -99,7 +99,7 @@ impl<R: Entry, A: Debug + PartialEq> Operation<u8, R, A> {
 
     /// Records of one to three blocks with several bytes that are wrong.
     pub fn several_bad_bytes(&self, group: &mut Group, random: &mut Random, rounds: u64, input: usize) {
-        for layout in self.layouts().repeat(rounds as usize) {
+        for layout in self.light_layouts().repeat(rounds as usize) {
             let blocks = 1 + random.place(3);
             let mut asked = (self.drawn)(random, layout, blocks);
             for _ in 0..random.between(2, 6) {
@@ -113,7 +113,7 @@ impl<R: Entry, A: Debug + PartialEq> Operation<u8, R, A> {
 
     /// Records whose bytes are drawn from few or from all.
     pub fn any_bytes(&self, group: &mut Group, random: &mut Random, rounds: u64, input: usize) {
-        for layout in self.layouts().repeat(rounds as usize) {
+        for layout in self.light_layouts().repeat(rounds as usize) {
             let blocks = 1 + random.place(3);
             let mut asked = (self.drawn)(random, layout, blocks);
             let most = random.pick(&[1, asked.list_of(input).len() as i64, layout.q, 255]);

@@ -138,7 +138,7 @@ pub fn other_count<const INPUT: usize, R>(random: &mut Random, asked: &mut Asked
 }
 
 /// Puts one of these faults into what is asked.
-fn any_fault<I, R>(random: &mut Random, asked: &mut Asked<I, R>, faults: &[Fault<I, R>]) {
+pub fn any_fault<I, R>(random: &mut Random, asked: &mut Asked<I, R>, faults: &[Fault<I, R>]) {
     random.pick(faults)(random, asked);
 }
 

@@ -10,6 +10,7 @@ mod nearest;
 mod operations;
 mod records;
 mod scores;
+mod stores;
 mod sweeps;
 mod tables;
 pub mod taking;
@@ -27,7 +28,7 @@ const LONGEST_PRINT: usize = 6_000;
 pub type Work = fn(&mut Group, u64);
 
 /// All groups, the lowest floor's first.
-pub const GROUPS: [&[(&str, Work)]; 20] = [
+pub const GROUPS: [&[(&str, Work)]; 25] = [
     taking::GROUPS,
     nearest::GROUPS,
     layers::GROUPS,
@@ -48,6 +49,11 @@ pub const GROUPS: [&[(&str, Work)]; 20] = [
     tables::rooms::GROUPS,
     tables::scoring::GROUPS,
     tables::laws::GROUPS,
+    stores::orders::GROUPS,
+    stores::hours::GROUPS,
+    stores::damage::GROUPS,
+    stores::faults::GROUPS,
+    stores::laws::GROUPS,
 ];
 
 /// A group of comparisons: its name and what came of it.

@@ -129,12 +129,22 @@ impl<I: Entry, R: Entry, A: Debug + PartialEq> Operation<I, R, A> {
         allowed_layouts().into_iter().filter(|layout| layout.q <= self.greatest_q).collect()
     }
 
-    /// The greatest K that is drawn, a small one where a block has 65,536 entries of a table.
+    /// Whether a block has 65,536 entries of the operation's table, so that few such blocks are drawn.
+    fn wide_table(&self, layout: Layout) -> bool {
+        self.greatest_q == 4 && layout.q == 4
+    }
+
+    /// The greatest K that is drawn.
     pub fn most_blocks(&self, layout: Layout) -> usize {
-        if self.greatest_q == 4 && layout.q == 4 {
+        if self.wide_table(layout) {
             3
         } else {
             MOST_BLOCKS
         }
+    }
+
+    /// The settings for thousands of inputs, of those with wide tables only one.
+    pub fn light_layouts(&self) -> Vec<Layout> {
+        self.layouts().into_iter().filter(|layout| !self.wide_table(*layout) || layout.layers == 2).collect()
     }
 }

@@ -10,11 +10,12 @@ use super::operations::Operation;
 use super::Group;
 
 impl<I: Entry, R: Entry, A: Debug + PartialEq> Operation<I, R, A> {
-    /// What is accepted, of each K at every setting.
+    /// What is accepted, of each K at every setting; where there is a query table, of each K past 16 at every q.
     pub fn every_count(&self, group: &mut Group, seed: u64, rounds: u64) {
         let mut random = Random::new(seed);
         for layout in self.layouts().repeat(rounds as usize) {
-            for blocks in 1..=self.most_blocks(layout) {
+            let drawn = |blocks: &usize| self.greatest_q != 4 || *blocks <= 16 || (blocks + layout.layers) % 4 == 0;
+            for blocks in (1..=self.most_blocks(layout)).filter(drawn) {
                 self.compare(group, &(self.drawn)(&mut random, layout, blocks));
             }
         }

@@ -63,14 +63,16 @@ impl<R: Entry, A: Debug + PartialEq> Operation<u8, R, A> {
         self.several_bad_readings(group, random, rounds);
     }
 
-    /// Every dimension from 0 to past the greatest and some far ones, before as many readings as 530 or fewer by 1.
+    /// Every dimension from 0 to past the greatest and some far ones, before 530 readings, before as many zeros as it says or fewer
+    /// by 1, and before readings that are all missing.
     pub fn every_reading_count(&self, group: &mut Group, random: &mut Random, blocks: usize) {
         let far = [576, 1_024, 1_032, 65_536 + 8, 1 << 24, 1 << 31, (1 << 31) + 8, u32::MAX - 7, u32::MAX];
         for layout in self.some_layouts() {
             let mut asked = (self.drawn)(random, layout, blocks);
             for dimension in (0..=530).chain(far) {
-                for readings in [530, dimension.min(530), dimension.clamp(1, 530) - 1] {
-                    asked.inputs[0] = record(dimension, &vec![0; 4 * readings as usize]);
+                let (all, fewer) = (dimension.min(530), dimension.clamp(1, 530) - 1);
+                for (byte, readings) in [(0, 530), (0, all), (0, fewer), (255, 530)] {
+                    asked.inputs[0] = record(dimension, &vec![byte; 4 * readings as usize]);
                     self.compare(group, &asked);
                 }
             }

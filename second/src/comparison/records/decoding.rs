@@ -25,7 +25,7 @@ pub const GROUPS: &[(&str, Work)] = &[
         DECODE.codes_cut_anywhere(group, &mut Random::new(438), 0);
     }),
     ("ek_decode, a bad byte at each place", |group, _| {
-        DECODE.bad_bytes(group, &mut Random::new(439), 0);
+        DECODE.bad_bytes(group, &mut Random::new(439), 0, 3);
     }),
     ("ek_decode, several bad bytes", |group, amount| {
         DECODE.several_bad_bytes(group, &mut Random::new(471), 200 * amount, 0);

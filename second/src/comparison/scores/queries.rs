@@ -50,7 +50,7 @@ fn great_readings(group: &mut Group, amount: u64) {
 }
 
 /// An fvecs record with the sign of every reading turned over.
-fn negated(query: &[u8]) -> Vec<u8> {
+pub fn negated(query: &[u8]) -> Vec<u8> {
     let sign = |(i, byte): (usize, &u8)| if i > 4 && i % 4 == 3 { byte ^ 0x80 } else { *byte };
     query.iter().enumerate().map(sign).collect()
 }

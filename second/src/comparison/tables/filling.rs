@@ -16,7 +16,7 @@ pub const GROUPS: &[(&str, Work)] = &[
         FILL_PAIR_TABLE.every_set(group, 602, 20 * amount, &PAIR_FAULTS);
     }),
     ("ek_fill_query_table, every q, M and K", |group, amount| FILL_QUERY_TABLE.every_count(group, 603, amount)),
-    ("ek_fill_query_table, a few blocks", |group, amount| FILL_QUERY_TABLE.few_blocks(group, 604, 40 * amount)),
+    ("ek_fill_query_table, a few blocks", |group, amount| FILL_QUERY_TABLE.few_blocks(group, 604, 20 * amount)),
     ("ek_fill_query_table, great readings", great_readings),
     ("ek_fill_query_table, every setting", |group, _| FILL_QUERY_TABLE.every_setting(group, 605)),
     ("ek_fill_query_table, damaged query", |group, amount| {
