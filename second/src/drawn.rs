@@ -1,9 +1,10 @@
 //! Inputs for the tests and the comparison: every allowed setting, and settings, step lists, digits, points, readings and
 //! records that are drawn.
 
-use crate::built::bvecs;
+use crate::built::{bvecs, fvecs_of_patterns, fvecs_of_units};
 use crate::lattice::Point;
-use crate::layers::{whole_point, Layout, Settings};
+use crate::layers::{layer_point, whole_point, Layout, Settings};
+use crate::lent::Entry;
 use crate::random::Random;
 
 /// Settings that are refused.
@@ -145,4 +146,44 @@ pub fn drawn_record(random: &mut Random, layout: Layout, blocks: usize, steps: u
     let limit = |index: usize| if index.is_multiple_of(size) { steps as i64 } else { layout.q };
     let body: Vec<u8> = (0..blocks * size).map(|index| random.between(0, limit(index) - 1) as u8).collect();
     bvecs(&body)
+}
+
+/// A good record of so many blocks, each with the same digits in every layer, those of a layer point that is far from 0.
+pub fn great_record(random: &mut Random, layout: Layout, blocks: usize, steps: usize) -> Vec<u8> {
+    let one_layer = Layout { layers: 1, ..layout };
+    let square = |digits: &Vec<u8>| layer_point(layout.q, digits).iter().map(|l| l * l).sum::<i64>();
+    let block = |_| {
+        let layer = (0..20).map(|_| drawn_digits(random, one_layer)).max_by_key(square).expect("some are drawn");
+        [vec![random.place(steps) as u8], layer.repeat(layout.layers)].concat()
+    };
+    let body: Vec<u8> = (0..blocks).flat_map(block).collect();
+    bvecs(&body)
+}
+
+/// The fvecs record of readings near 16384 or -16384, by the signs of a record's points, so that every product is positive.
+pub fn great_query(random: &mut Random, layout: Layout, record: &[u8]) -> Vec<u8> {
+    let points = record[4..].chunks(layout.block_bytes()).flat_map(|block| whole_point(layout, &block[1..]));
+    let units: Vec<i32> = points.map(|e| (e.signum() * ((1 << 24) - random.between(0, 2))) as i32).collect();
+    fvecs_of_units(&units)
+}
+
+/// The fvecs record of so many blocks of readings in range, a query of small ones as often as of great ones.
+pub fn drawn_query(random: &mut Random, blocks: usize) -> Vec<u8> {
+    let greatest = 1 << random.below(25);
+    let pattern = |_| {
+        let x = random.between(-greatest, greatest) as i32;
+        drawn_pattern(random, x)
+    };
+    let patterns: Vec<u32> = (0..8 * blocks).map(pattern).collect();
+    fvecs_of_patterns(&patterns)
+}
+
+/// A table of so many entries of any kind, the least and the greatest often among them.
+pub fn drawn_table<E: Entry>(random: &mut Random, length: usize) -> Vec<E> {
+    let bits = |drawn: u64| match drawn % 8 {
+        0 => 1 << 63,
+        1 => u64::MAX >> 1,
+        _ => drawn,
+    };
+    (0..length).map(|_| E::of_high_bits(bits(random.draw()))).collect()
 }

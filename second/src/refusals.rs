@@ -12,6 +12,11 @@ pub struct Refusal {
 /// A value, or the refusal that stands in its stead.
 pub type Answer<V> = Result<V, Refusal>;
 
+/// The answer that refuses with this number and place.
+pub fn refused<V>(number: u64, place: u64) -> Answer<V> {
+    Err(Refusal { number, place })
+}
+
 /// q, M or q^M outside limits.
 pub const SETTINGS: u64 = 1;
 /// A step list outside its rule.
@@ -45,7 +50,7 @@ pub const AT_TABLE: u64 = 2;
 /// Refuses with this number at the index of the first fault, if there is one.
 pub fn demand_none(first_fault: Option<usize>, number: u64) -> Answer<()> {
     match first_fault {
-        Some(index) => Err(Refusal { number, place: index as u64 }),
+        Some(index) => refused(number, index as u64),
         None => Ok(()),
     }
 }
@@ -55,6 +60,6 @@ pub fn demand(rule: bool, number: u64, place: u64) -> Answer<()> {
     if rule {
         Ok(())
     } else {
-        Err(Refusal { number, place })
+        refused(number, place)
     }
 }

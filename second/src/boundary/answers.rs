@@ -5,6 +5,7 @@ use second::layers::Settings;
 use second::readings::{value_of_units, Taken};
 use second::records::Reported;
 use second::refusals::{Answer, Refusal, MISSING, OUT_OF_RANGE};
+use second::stores::Hour;
 
 /// The header's `ek_settings`.
 #[repr(C)]
@@ -83,15 +84,40 @@ impl From<Answer<Point>> for PointAnswer {
 pub struct ValueAnswer {
     number: u64,
     place: u64,
-    /// The number of bytes written, or 0 with a refusal.
+    /// The score, or the number of bytes or entries written, or 0 with a refusal.
     pub value: i64,
 }
 
+impl From<Answer<i64>> for ValueAnswer {
+    /// The expected score in the library's form.
+    fn from(answer: Answer<i64>) -> Self {
+        let (Refusal { number, place }, value) = parted(answer, 0);
+        ValueAnswer { number, place, value }
+    }
+}
+
 impl From<Answer<usize>> for ValueAnswer {
-    /// The expected number of bytes in the library's form.
+    /// The expected number of bytes or entries in the library's form.
     fn from(answer: Answer<usize>) -> Self {
-        let (Refusal { number, place }, length) = parted(answer, 0);
-        ValueAnswer { number, place, value: length as i64 }
+        answer.map(|written| written as i64).into()
+    }
+}
+
+/// The header's `ek_hour`.
+#[repr(C)]
+#[derive(Clone, Copy, Debug, PartialEq, Eq)]
+pub struct HourAnswer {
+    number: u64,
+    place: u64,
+    hour: u64,
+    score: i64,
+}
+
+impl From<Answer<Hour>> for HourAnswer {
+    /// The expected hour in the library's form.
+    fn from(answer: Answer<Hour>) -> Self {
+        let (Refusal { number, place }, Hour { hour, score }) = parted(answer, Hour { hour: 0, score: 0 });
+        HourAnswer { number, place, hour, score }
     }
 }
 

@@ -1,35 +1,59 @@
 //! The comparison: groups of inputs on which both programs must give the same answer and leave the same buffers.
 //!
-//! An exported function joins with its declaration in `boundary`, a file of its groups here, and their name in `GROUPS`.
+//! An exported function joins with its declaration in `boundary`, an `Operation` and its groups here, and their name in
+//! `GROUPS`.
 
-pub mod layers;
-pub mod nearest;
-pub mod records;
+mod codes;
+mod faults;
+mod layers;
+mod nearest;
+mod operations;
+mod records;
+mod scores;
+mod stores;
+mod sweeps;
+mod tables;
 pub mod taking;
+mod vectors;
 
 use std::fmt::Debug;
 
-use records::{decoding, encoding, faults, inputs, orders, reports, rooms, round_trips};
-
 /// The number of differences that a group prints.
 const PRINTED: u64 = 5;
+
+/// The greatest number of characters of an input that is printed; tables have many more.
+const LONGEST_PRINT: usize = 6_000;
 
 /// What a group does with an amount of work.
 pub type Work = fn(&mut Group, u64);
 
 /// All groups, the lowest floor's first.
-pub const GROUPS: [&[(&str, Work)]; 11] = [
+pub const GROUPS: [&[(&str, Work)]; 25] = [
     taking::GROUPS,
     nearest::GROUPS,
     layers::GROUPS,
-    orders::GROUPS,
-    encoding::GROUPS,
-    inputs::GROUPS,
-    decoding::GROUPS,
-    rooms::GROUPS,
-    faults::GROUPS,
-    reports::GROUPS,
-    round_trips::GROUPS,
+    records::orders::GROUPS,
+    records::encoding::GROUPS,
+    records::inputs::GROUPS,
+    records::decoding::GROUPS,
+    records::rooms::GROUPS,
+    records::faults::GROUPS,
+    records::reports::GROUPS,
+    records::round_trips::GROUPS,
+    scores::orders::GROUPS,
+    scores::pairs::GROUPS,
+    scores::queries::GROUPS,
+    scores::laws::GROUPS,
+    tables::orders::GROUPS,
+    tables::filling::GROUPS,
+    tables::rooms::GROUPS,
+    tables::scoring::GROUPS,
+    tables::laws::GROUPS,
+    stores::orders::GROUPS,
+    stores::hours::GROUPS,
+    stores::damage::GROUPS,
+    stores::faults::GROUPS,
+    stores::laws::GROUPS,
 ];
 
 /// A group of comparisons: its name and what came of it.
@@ -57,8 +81,17 @@ impl Group {
         if expected != library {
             self.differences += 1;
             if self.differences <= PRINTED {
-                println!("{}: input {input:?}\n  expected {expected:?}\n  library  {library:?}", self.name);
+                println!("{}: input {}\n  expected {expected:?}\n  library  {library:?}", self.name, shortened(input));
             }
         }
+    }
+}
+
+/// An input in words, without what is past the longest print.
+fn shortened(input: &dyn Debug) -> String {
+    let words = format!("{input:?}");
+    match words.get(..LONGEST_PRINT) {
+        Some(start) => format!("{start} ..."),
+        None => words,
     }
 }

@@ -1,12 +1,14 @@
 //! Drawn inputs: what is drawn as good is good, and vectors of readings come out in every way often.
 
+use super::settings;
 use crate::built::fvecs_of_patterns;
-use crate::drawn::{allowed_layouts, drawn_pattern, drawn_record, drawn_steps, drawn_units, lent};
-use crate::drawn::{REFUSED_SETTINGS, REFUSED_STEPS};
-use crate::layers::allowed_steps;
+use crate::drawn::{allowed_layouts, drawn_pattern, drawn_query, drawn_record, drawn_steps, drawn_table, drawn_units};
+use crate::drawn::{great_query, great_record, lent, REFUSED_SETTINGS, REFUSED_STEPS};
+use crate::layers::{allowed_steps, Layout};
 use crate::random::Random;
 use crate::readings::{take_bits, Taken};
 use crate::records::{decode, encode, Vector};
+use crate::scores::query_score;
 
 #[test]
 fn refused_settings_and_steps_are_refused() {
@@ -52,4 +54,36 @@ fn drawn_vectors_are_coded_with_first_and_later_steps_and_overload() {
         }
     }
     assert!([first, later, overload].iter().all(|count| 5 * count > all), "{first} {later} {overload}");
+}
+
+#[test]
+fn drawn_queries_are_in_range() {
+    let mut random = Random::new(64);
+    for _ in 0..1_000 {
+        let query = drawn_query(&mut random, 2);
+        assert_eq!(Vector::Record(&query).readings().map(|readings| readings.len()), Ok(16));
+        let record = drawn_record(&mut random, Layout { q: 3, layers: 1 }, 2, 1);
+        assert!(query_score(settings(3, 1), &[1], Vector::Record(&query), &record).is_ok());
+    }
+}
+
+#[test]
+fn great_queries_score_high_with_their_records() {
+    let mut random = Random::new(65);
+    for layout in allowed_layouts() {
+        let record = great_record(&mut random, layout, 2, 1);
+        let query = great_query(&mut random, layout, &record);
+        let score = query_score(lent(layout), &[1024], Vector::Record(&query), &record);
+        assert!(score.is_ok_and(|score| score > 16 * 1024 * (1 << 23) * layout.weight(layout.layers - 1)));
+    }
+}
+
+#[test]
+fn drawn_tables_have_the_least_and_the_greatest_entries() {
+    let mut random = Random::new(66);
+    let (narrow, wide) = (drawn_table::<i8>(&mut random, 1_000), drawn_table::<i32>(&mut random, 1_000));
+    assert!(narrow.contains(&i8::MIN) && narrow.contains(&i8::MAX) && narrow.iter().any(|entry| entry.abs_diff(0) < 9));
+    assert!(
+        wide.contains(&i32::MIN) && wide.contains(&i32::MAX) && wide.iter().any(|entry| entry.abs_diff(0) < 1 << 28)
+    );
 }

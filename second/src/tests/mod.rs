@@ -5,23 +5,21 @@ mod drawn;
 mod edges;
 mod lattice;
 mod layers;
+mod lent;
 mod orders;
 mod readings;
 mod records;
+mod scores;
 mod showing;
+mod stores;
 mod tables;
 
 use crate::layers::Settings;
-use crate::refusals::{Answer, Refusal};
+use crate::refusals::refused;
 
 /// Settings q and M.
 fn settings(q: i32, m: i32) -> Settings {
     Settings { q, m }
-}
-
-/// The answer that refuses with this number and place.
-fn refused<V>(number: u64, place: u64) -> Answer<V> {
-    Err(Refusal { number, place })
 }
 
 /// Eight numbers that begin so and end in zeros.

@@ -5,7 +5,8 @@ use second::drawn::{allowed_layouts, drawn_pattern, drawn_steps, drawn_units, NE
 use second::layers::Layout;
 use second::random::Random;
 
-use super::{code_length, Asked, ENCODE, ENCODE_UNITS, MOST_BLOCKS};
+use super::{code_length, ENCODE, ENCODE_UNITS};
+use crate::comparison::operations::{Asked, MOST_BLOCKS};
 use crate::comparison::{Group, Work};
 
 /// The groups of encoding.

@@ -3,12 +3,14 @@
 use second::built::{bvecs, fvecs, record};
 use second::lattice::Point;
 use second::layers::Settings;
-use second::lent::{Entry, Lent};
+use second::lent::{to_write_over, Entry, Lent};
 use second::records::Reported;
-use second::refusals::{Answer, Refusal};
+use second::refusals::{refused, Answer};
 
-use super::{Asked, Operation, DECODE, ENCODE, ENCODE_UNITS};
-use crate::boundary::{self, answers::PointAnswer, answers::ReportAnswer, answers::ValueAnswer};
+use super::reports::REPORT;
+use super::{DECODE, ENCODE, ENCODE_UNITS};
+use crate::boundary::{self, answers::PointAnswer, answers::ValueAnswer};
+use crate::comparison::operations::{Asked, Operation};
 use crate::comparison::{Group, Work};
 
 /// The group of the order vectors.
@@ -40,25 +42,14 @@ enum Outcome<'a> {
 
 use Outcome::{Refused, Written};
 
-/// A refusal with its number and place.
-fn refused<V>(number: u64, place: u64) -> Answer<V> {
-    Err(Refusal { number, place })
-}
-
-impl<E: Entry> Operation<E> {
+impl<E: Entry> Operation<E, u8, ValueAnswer> {
     /// Compares the library's answer and room with what a row says.
     fn row(&self, group: &mut Group, settings: Settings, steps: &[i32], input: &[E], room: usize, outcome: Outcome) {
-        let (mut expected, mut library) = (Lent::room_of(room), Lent::room_of(room));
-        let answer = match outcome {
-            Refused(number, place) => refused(number, place),
-            Written(record) => {
-                expected.room()[..record.len()].copy_from_slice(record);
-                Ok(record.len())
-            }
-        };
-        let asked = Asked { settings, steps: steps.to_vec(), input: input.to_vec(), room };
-        let given = (self.library)(settings, steps, input, library.room());
-        group.compare(&asked, (ValueAnswer::from(answer), expected), (given, library));
+        let asked = Asked::lending(settings, [steps, &[]], [input, &[]], to_write_over(room));
+        match outcome {
+            Refused(number, place) => self.compare_row(group, &asked, refused::<usize>(number, place), &[]),
+            Written(record) => self.compare_row(group, &asked, Ok(record.len()), record),
+        }
     }
 }
 
@@ -170,8 +161,8 @@ fn point_rows(group: &mut Group) {
 /// The report: each refusal before the next, and block E.
 fn report_rows(group: &mut Group) {
     let mut row = |settings: Settings, steps: &[i32], units: &[i32], answer: Answer<[Reported; 8]>| {
-        let given = boundary::report(settings, steps, units);
-        group.compare(&(settings, steps, units), ReportAnswer::from(answer), given);
+        let asked = Asked::lending(settings, [steps, &[]], [units, &[]], Vec::new());
+        REPORT.compare_row(group, &asked, answer, &[]);
     };
     row(Settings { q: 1, m: 1 }, &[], &[], refused(1, 0));
     row(BINARY, &[], &[], refused(2, 0));

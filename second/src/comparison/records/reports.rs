@@ -1,13 +1,24 @@
 //! Reports: both programs on one block of whole units.
 
-use second::drawn::{allowed_layouts, drawn_steps, drawn_units, lent, REFUSED_SETTINGS, REFUSED_STEPS};
-use second::layers::Settings;
-use second::lent::Lent;
+use second::drawn::{allowed_layouts, drawn_steps, drawn_units, NEVER};
+use second::layers::Layout;
 use second::random::Random;
 use second::records::report;
 
-use crate::boundary;
+use crate::boundary::{self, answers::ReportAnswer};
+use crate::comparison::operations::{Asked, Operation};
 use crate::comparison::{Group, Work};
+
+/// The report on a block, of which every K gives one.
+pub const REPORT: Operation<i32, u8, ReportAnswer> = Operation {
+    second: |settings, [steps, _], [units, _], _| report(settings, steps, units).into(),
+    library: |settings, [steps, _], [units, _], _| boundary::report(settings, steps, units),
+    drawn: |random, layout, _| {
+        let steps = drawn_steps(random);
+        Asked::new(layout, &steps, &drawn_units(random, layout, &steps, 1, NEVER), 0)
+    },
+    greatest_q: 16,
+};
 
 /// The groups of the report.
 pub const GROUPS: &[(&str, Work)] = &[
@@ -16,15 +27,12 @@ pub const GROUPS: &[(&str, Work)] = &[
     ("ek_report, rich in ties", rich_in_ties),
     ("ek_report, counts", every_count),
     ("ek_report, a bad reading at each place", bad_units),
-    ("ek_report, wrong", wrong),
+    ("ek_report, settings and step lists", wrong),
 ];
 
-/// Compares the report, float by float, and that the step list and the units stay as they were.
-pub fn compare_report(group: &mut Group, settings: Settings, steps: &[i32], units: &[i32]) {
-    let (lent_steps, lent_units) = (Lent::new(steps), Lent::new(units));
-    let expected = (report(settings, steps, units).into(), lent_steps.clone(), lent_units.clone());
-    let library = boundary::report(settings, lent_steps.content(), lent_units.content());
-    group.compare(&(settings, steps, units), expected, (library, lent_steps, lent_units));
+/// Compares the report, float by float, at allowed settings.
+fn compare_report(group: &mut Group, layout: Layout, steps: &[i32], units: &[i32]) {
+    REPORT.compare(group, &Asked::new(layout, steps, units, 0));
 }
 
 /// Blocks that fit a step on their list, and loud ones.
@@ -34,7 +42,7 @@ fn random_blocks(group: &mut Group, amount: u64) {
         for _ in 0..500 * amount {
             let steps = drawn_steps(&mut random);
             let units = drawn_units(&mut random, layout, &steps, 1, 5);
-            compare_report(group, lent(layout), &steps, &units);
+            compare_report(group, layout, &steps, &units);
         }
     }
 }
@@ -46,7 +54,7 @@ fn every_size(group: &mut Group, amount: u64) {
         for power in (0..=24).cycle().take(100 * amount as usize) {
             let steps = drawn_steps(&mut random);
             let units: [i32; 8] = std::array::from_fn(|_| random.between(-(1 << power), 1 << power) as i32);
-            compare_report(group, lent(layout), &steps, &units);
+            compare_report(group, layout, &steps, &units);
         }
     }
 }
@@ -59,7 +67,7 @@ fn rich_in_ties(group: &mut Group, amount: u64) {
             let s = random.between(1, 12) as i32;
             let far = random.pick(&[0, 1, 2, 4]);
             let units: [i32; 8] = std::array::from_fn(|_| random.between(-far, far) as i32 * s / 2);
-            compare_report(group, lent(layout), &[s, 2 * s, 3 * s], &units);
+            compare_report(group, layout, &[s, 2 * s, 3 * s], &units);
         }
     }
 }
@@ -68,7 +76,7 @@ fn rich_in_ties(group: &mut Group, amount: u64) {
 fn every_count(group: &mut Group, _: u64) {
     for layout in allowed_layouts() {
         for count in (0..=64).chain([512]) {
-            compare_report(group, lent(layout), &[5], &vec![0; count]);
+            compare_report(group, layout, &[5], &vec![0; count]);
         }
     }
 }
@@ -81,20 +89,14 @@ fn bad_units(group: &mut Group, _: u64) {
             for x in [limit, limit + 1, -limit, -limit - 1, i32::MAX, i32::MIN] {
                 let mut units = [0; 8];
                 units[place] = x;
-                compare_report(group, lent(layout), &[1024], &units);
+                compare_report(group, layout, &[1024], &units);
             }
         }
     }
 }
 
-/// Refused settings and step lists.
+/// Settings of every kind, and step lists that are refused.
 fn wrong(group: &mut Group, _: u64) {
-    for settings in REFUSED_SETTINGS {
-        compare_report(group, settings, &[5], &[0; 8]);
-    }
-    for layout in allowed_layouts() {
-        for steps in REFUSED_STEPS {
-            compare_report(group, lent(layout), steps, &[0; 8]);
-        }
-    }
+    REPORT.every_setting(group, 444);
+    REPORT.refused_steps(group, 445, 1);
 }

@@ -6,7 +6,9 @@ use second::layers::Layout;
 use second::lent::Entry;
 use second::random::Random;
 
-use super::{code_length, readings_length, Asked, Operation, DECODE, ENCODE, ENCODE_UNITS, MOST_BLOCKS};
+use super::{code_length, readings_length, DECODE, ENCODE, ENCODE_UNITS};
+use crate::boundary::answers::ValueAnswer;
+use crate::comparison::operations::{Asked, Operation, MOST_BLOCKS};
 use crate::comparison::{Group, Work};
 
 /// The groups of room.
@@ -19,8 +21,11 @@ pub const GROUPS: &[(&str, Work)] = &[
 /// The step list of these groups.
 const STEPS: [i32; 2] = [40, 90];
 
+/// An operation that writes bytes.
+type ToBytes<E> = Operation<E, u8, ValueAnswer>;
+
 /// Compares an operation with room of every length to 16 past what it needs, for long records with those at the edges.
-fn compare_rooms<E: Entry>(group: &mut Group, operation: &Operation<E>, layout: Layout, input: &[E], need: usize) {
+fn compare_rooms<E: Entry>(group: &mut Group, operation: &ToBytes<E>, layout: Layout, input: &[E], need: usize) {
     let edges = [0, 3, 4, 5, need - 5, need - 4, need - 2, need - 1, need, need + 1, need + 2, 2 * need];
     let lengths = if need > 150 { edges.to_vec() } else { (0..=need + 16).collect() };
     for room in lengths {

@@ -6,8 +6,9 @@ use second::layers::Layout;
 use second::lent::Lent;
 use second::random::Random;
 
-use super::{code_length, readings_length, Asked, ENCODE};
+use super::{code_length, readings_length, ENCODE};
 use crate::boundary::{self, answers::ReadingAnswer};
+use crate::comparison::operations::Asked;
 use crate::comparison::{Group, Work};
 
 /// The groups of round trips.
@@ -44,7 +45,7 @@ impl Drawn {
 }
 
 /// The library's readings of a record.
-fn decoded(layout: Layout, steps: &[i32], record: &[u8]) -> Vec<u8> {
+pub fn decoded(layout: Layout, steps: &[i32], record: &[u8]) -> Vec<u8> {
     let mut room = Lent::room_of(readings_length(record.len() / layout.block_bytes()));
     boundary::decode(lent(layout), steps, record, room.room());
     room.content().to_vec()
