@@ -46,12 +46,12 @@ struct code {
     const int32_t *steps;
     size_t count;
     int32_t width;
-    int64_t of_q, of_step[4];
+    struct inverse of_q, of_step[4];
 };
 
 /* What is prepared for allowed settings and steps. */
 static struct code prepared(ek_settings settings, const int32_t *steps, size_t count) {
-    struct code c = {settings, steps, count, 0, inverse(settings.q), {0}};
+    struct code c = {settings, steps, count, 0, inverse(settings.q), {{0, 0}}};
     for (int k = 0; k < settings.m; k++) c.width = settings.q * (c.width + 2);
     for (size_t t = 0; t < count; t++) c.of_step[t] = inverse(steps[t]);
     return c;
@@ -194,7 +194,7 @@ static size_t first_bad(int32_t q, size_t n, const uint8_t *block) {
 /* Writes the readings of a block as binary32. */
 static inline void put_readings(int32_t s, const int32_t *e, uint8_t *out) {
     float readings[8];
-    for (int i = 0; i < 8; i++) readings[i] = (float)(s * e[i]) * (1.0f / 2048.0f);
+    for (int i = 0; i < 8; i++) readings[i] = (float)e[i] * ((float)s / 2048.0f);
     memcpy(out, readings, sizeof readings);
 }
 
@@ -209,12 +209,11 @@ ek_answer NAME(PREFIX, _decode)(ek_settings settings, const int32_t *steps, size
     for (size_t b = 0; b < blocks; b++)
         if (bad_block(settings.q, settings.m, n, in + 4 + b * block)) return refused(7, b * block + first_bad(settings.q, n, in + 4 + b * block));
     uint32_t count = 8 * (uint32_t)blocks;
-    int64_t w = inverse(settings.q);
     int32_t e[8];
     memcpy(out, &count, sizeof count);
     for (size_t b = 0; b < blocks; b++) {
         const uint8_t *at = in + 4 + b * block;
-        whole_point(settings, w, at + 1, e);
+        whole_point(settings, at + 1, e);
         put_readings(steps[at[0]], e, out + 4 + 32 * b);
     }
     ek_answer a = {0, 0, 4 + 32 * (int64_t)blocks};
