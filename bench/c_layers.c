@@ -1,5 +1,5 @@
 /* Coding and decoding a point in C. Compiled several times, each under its own PREFIX. */
-#include "c_layers.h"
+#include "c_points.h"
 
 /* An answer with zeros for its point. */
 static ek_point answer(uint64_t number, uint64_t place) {
@@ -26,7 +26,9 @@ ek_point NAME(PREFIX, _point_of_digits)(ek_settings settings, const uint8_t *dig
     size_t bad = first_bad(settings.q, digits, n);
     if (bad < n) return answer(7, bad);
     ek_point p = answer(0, 0);
-    whole_point(settings, digits, p.e);
+    int16_t e[8];
+    whole_point(settings, digits, e);
+    for (int i = 0; i < 8; i++) p.e[i] = e[i];
     return p;
 }
 
