@@ -8,7 +8,7 @@ all:
 test:
 	bash tests/run
 
-# The library beside C for the same jobs, as ratios. Not a test: it takes a minute and an idle machine.
+# The library beside C for the same jobs, as ratios. Not a test: it takes a minute or two and an idle machine.
 bench:
 	bash bench/run
 

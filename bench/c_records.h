@@ -70,12 +70,14 @@ static inline ek_answer first_refused(const uint8_t *readings) {
     return refused((word(readings, 4 * i) & 0x7fffffff) > 0x7f800000 ? 4 : 5, i);
 }
 
-/* Takes readings that are in range: a half goes down, as what is cut off from a greater number less the reading. */
+/* Takes readings that are in range: what is cut off says whether one more or one less is nearer, a half goes down. */
 static inline void take(const uint8_t *readings, size_t count, int32_t *x) {
     for (size_t i = 0; i < count; i++) {
         float reading;
         memcpy(&reading, readings + 4 * i, sizeof reading);
-        x[i] = 33554432 - (int32_t)(33554432.5 - 1024.0 * reading);
+        int32_t whole = (int32_t)(1024.0f * reading);
+        float rest = 1024.0f * reading - (float)whole;
+        x[i] = whole + (rest > 0.5f) - (rest <= -0.5f);
     }
 }
 
@@ -90,14 +92,15 @@ static inline size_t block_count(ek_settings settings, const uint8_t *record, si
 /* The same byte eight times. */
 #define EACH(byte) ((byte) * 0x0101010101010101u)
 
-/* Whether some T of k blocks is not below n or some digit not below q, eight digits at a time. */
+/* Whether some T of k blocks is not below n or some digit not below q, eight digits at a time: none may reach 128, with 128 - q added. */
 static inline int some_bad(ek_settings settings, size_t n, const uint8_t *blocks, size_t k) {
-    uint64_t over = EACH(128 - (uint64_t)settings.q), bad = 0;
+    uint64_t added = EACH(128 - (uint64_t)settings.q), bad = 0;
+    int64_t past = 0;
     for (size_t b = 0; b < k; b++, blocks += block_bytes(settings)) {
-        bad |= blocks[0] | (blocks[0] + 128 - n);
-        for (int j = 0; j < settings.m; j++) bad |= eight(blocks + 1 + 8 * j) | (eight(blocks + 1 + 8 * j) + over);
+        past |= (int64_t)n - 1 - blocks[0];
+        EACH_LAYER(i, settings.m) bad |= eight(blocks + 1 + 8 * i) | (eight(blocks + 1 + 8 * i) + added);
     }
-    return (bad & EACH(128)) != 0;
+    return past < 0 || (bad & EACH(128)) != 0;
 }
 
 /* The place of the first T not below n or digit not below q in blocks that have one. */
@@ -107,9 +110,10 @@ static inline size_t first_bad(ek_settings settings, size_t n, const uint8_t *bl
     return i;
 }
 
-/* A code record that must have k blocks, k not 0: accepted, or its refusal. */
+/* A code record that must have k blocks: accepted, or its refusal. */
 static inline ek_answer record_checked(ek_settings settings, size_t n, const uint8_t *record, size_t len, size_t k) {
-    if (block_count(settings, record, len) != k) return refused(10, 0);
+    size_t bytes = k * block_bytes(settings);
+    if (len < 4 + bytes || word(record, 0) != bytes) return refused(10, 0);
     if (some_bad(settings, n, record + 4, k)) return refused(7, first_bad(settings, n, record + 4));
     return answered(0);
 }
