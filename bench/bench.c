@@ -11,7 +11,7 @@ typedef ek_point decode_fn(ek_settings, const uint8_t *, size_t);
 
 #define C_VERSIONS(cc) \
     take_fn cc##_take_double, cc##_take_shift; \
-    nearest_fn cc##_same, cc##_plain; \
+    nearest_fn cc##_fast, cc##_plain; \
     code_fn cc##_digits_of_point; \
     decode_fn cc##_point_of_digits;
 C_VERSIONS(gcc)
@@ -19,7 +19,8 @@ C_VERSIONS(gcc)
 C_VERSIONS(clang)
 #endif
 
-enum { ROUNDS = 200 };
+/* How many rounds of runs: fewer where they take longer than a second. */
+enum { LEAST_ROUNDS = 5, ROUNDS = 200, MOST_TIME = 1000000000 };
 
 static int32_t input[BLOCKS][8];
 static uint8_t digits[BLOCKS][32];
@@ -40,13 +41,18 @@ double now(void) {
     return t.tv_sec * 1e9 + t.tv_nsec;
 }
 
-void compare(const char *job, struct way *ways, int n) {
+void measure(struct way *ways, int n) {
+    double start = now();
     for (int k = 0; k < n; k++) ways[k].best = 1e30;
-    for (int r = 0; r < ROUNDS; r++)
+    for (int r = 0; r < LEAST_ROUNDS || (r < ROUNDS && now() - start < MOST_TIME); r++)
         for (int k = 0; k < n; k++) {
             double t = ways[k].run();
             if (t < ways[k].best) ways[k].best = t;
         }
+}
+
+void compare(const char *job, struct way *ways, int n) {
+    measure(ways, n);
     printf("%s\n", job);
     for (int k = 0; k < n; k++) printf("  %-20s %7.2f ns   library / this: %.2f\n", ways[k].name, ways[k].best, ways[0].best / ways[k].best);
 }
@@ -106,10 +112,10 @@ static int32_t step;
 #define NEAREST_RUN(f) POINT_RUN(f, input[i], 8, step)
 
 NEAREST_RUN(ek_nearest)
-NEAREST_RUN(gcc_same)
+NEAREST_RUN(gcc_fast)
 NEAREST_RUN(gcc_plain)
 #ifdef CLANG
-NEAREST_RUN(clang_same)
+NEAREST_RUN(clang_fast)
 NEAREST_RUN(clang_plain)
 #endif
 
@@ -118,15 +124,15 @@ static void nearest_point(int32_t s, int32_t most) {
     step = s;
     for (int i = 0; i < BLOCKS; i++) {
         for (int j = 0; j < 8; j++) input[i][j] = (int32_t)(next() % (2 * (uint64_t)most + 1)) - most;
-        ek_point a = ek_nearest(input[i], 8, s), b = gcc_same(input[i], 8, s), c = gcc_plain(input[i], 8, s);
+        ek_point a = ek_nearest(input[i], 8, s), b = gcc_fast(input[i], 8, s), c = gcc_plain(input[i], 8, s);
         if (memcmp(&a, &b, sizeof a) != 0 || memcmp(&a, &c, sizeof a) != 0) printf("nearest point DIFFERS at block %d\n", i);
     }
     struct way ways[] = {
         {"library", run_ek_nearest, 0},
-        {"same, gcc -O3", run_gcc_same, 0},
+        {"fast, gcc -O3", run_gcc_fast, 0},
         {"plain, gcc -O3", run_gcc_plain, 0},
 #ifdef CLANG
-        {"same, clang -O3", run_clang_same, 0},
+        {"fast, clang -O3", run_clang_fast, 0},
         {"plain, clang -O3", run_clang_plain, 0},
 #endif
     };
@@ -191,5 +197,7 @@ int main(void) {
     whole_decoding(16, 3);
     coding(16, 3, 8000);
     records();
+    scores();
+    stores();
     return 0;
 }

@@ -1,5 +1,5 @@
 /* Coding and decoding a point in C. Compiled several times, each under its own PREFIX. */
-#include "c_layers.h"
+#include "c_points.h"
 
 /* An answer with zeros for its point. */
 static ek_point answer(uint64_t number, uint64_t place) {
@@ -26,7 +26,9 @@ ek_point NAME(PREFIX, _point_of_digits)(ek_settings settings, const uint8_t *dig
     size_t bad = first_bad(settings.q, digits, n);
     if (bad < n) return answer(7, bad);
     ek_point p = answer(0, 0);
-    whole_point(settings, inverse(settings.q), digits, p.e);
+    int16_t e[8];
+    whole_point(settings, digits, e);
+    for (int i = 0; i < 8; i++) p.e[i] = e[i];
     return p;
 }
 
@@ -50,7 +52,7 @@ ek_point NAME(PREFIX, _digits_of_point)(ek_settings settings, const int32_t *e, 
     if (room < 8 * (size_t)settings.m) return answer(3, 1);
     if (!is_point(e)) return answer(9, 0);
     ek_point p = answer(0, 0);
-    int64_t w = inverse(settings.q);
+    struct inverse w = inverse(settings.q);
     memcpy(p.e, e, sizeof p.e);
     for (int k = 0; k < settings.m; k++) {
         struct near near = nearest(p.e, settings.q, w);

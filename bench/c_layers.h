@@ -1,8 +1,7 @@
-/* Layers in C, for points and for records: the nearest point in 32 bits with one multiplication for each rounding, digits, layer points. */
+/* Layers in C, for points and for records, on little-endian machines: the nearest point, digits, layer points. */
 #include <string.h>
 
 #include "c_names.h"
-#include "c_table.h"
 #include "enkhovrag.h"
 
 /* Whether q, m and q^m keep their limits. */
@@ -13,65 +12,75 @@ static inline int allowed(ek_settings settings) {
 
 /* ---- the nearest point */
 
+/* A function that the compiler leaves as it stands. */
+#define APART static __attribute__((noinline, unused))
+
+/* clang makes branches of the choices in a loop, which no processor foresees here; out of loops it makes none. */
+#ifdef __clang__
+#define NOT_IN_LOOPS APART
+#else
+#define NOT_IN_LOOPS static inline
+#endif
+
+/* The inverse of 4s: n / 4s, rounded down, is n times it, shifted, for odd n below 2^28. */
+struct inverse {
+    int64_t times;
+    int shift;
+};
+
+static inline struct inverse inverse(int32_t s) {
+    int shift = s > 64 ? 41 : 37;
+    struct inverse w = {((int64_t)1 << shift) / (4 * s), shift};
+    return w;
+}
+
+/* How a half is mended: what that adds to its sum of squares, over 4s, and whether it is at the first coordinate. */
+struct mending {
+    int32_t cost, first;
+};
+
+/* The nearer half, 0 for even and 1 for odd, and of equals the one that comes first. The even half's rests have this sum of sizes; down:
+ * its first rest is not above 0. The sizes of a coordinate's two rests make s, so the odd squares are more by 2s(4s - sizes). */
+static inline int32_t nearer_half(int32_t s, int32_t sizes, int32_t down, struct mending even, struct mending odd) {
+    int32_t apart = 1 - 2 * odd.first - 2 * even.first, before = down ? apart > 0 : apart < 0;
+    return 2 * (4 * s - sizes + 2 * odd.cost) < 4 * even.cost + before;
+}
+
 /* The nearest point e to v / s and r = v - s e. */
 struct near {
     int32_t e[8], r[8];
 };
 
-/* Both halves, even and odd: roundings f and rests r, the sum of the roundings, the sum of squares, the greatest key. */
-struct halves {
-    int32_t f[2][8], r[2][8], sum[2], cost[2], key[2];
-};
-
-/* 2^36 over 2s: close enough for v up to 10000s, and for v up to 2^26 where s is at most 16. */
-static inline int64_t inverse(int32_t s) {
-    return ((int64_t)1 << 36) / (2 * s);
-}
-
-/* The greatest key is where a half is mended: at the greatest rest, of equals the earliest that goes down, else the last that goes up. */
-static inline int32_t key(int32_t rest, int32_t i) {
-    int32_t down = -(rest <= 0);
-    return ((rest ^ down) - down) * 16 + (i ^ (down & 15));
-}
-
-/* Both halves of v / s, w the inverse of s. */
-static inline struct halves rounded(const int32_t *v, int32_t s, int64_t w) {
-    struct halves h = {0};
-    for (int i = 0; i < 8; i++)
-        for (int p = 0; p < 2; p++) {
-            int32_t x = v[i] - (p ? s : 0), f = (int32_t)((2 * x + 2 * s - 1) * w >> 37), r = x - 2 * s * f, k = key(r, i);
-            h.f[p][i] = f;
-            h.r[p][i] = r;
-            h.sum[p] += f;
-            h.cost[p] += r * r;
-            h.key[p] = h.key[p] < k ? k : h.key[p];
-        }
-    return h;
-}
-
-/* The nearest point to v / s, w the inverse of s. Only the closer half is mended. */
-static inline struct near nearest(const int32_t *v, int32_t s, int64_t w) {
-    struct halves h = rounded(v, s, w);
+/* The nearest point to v / s, w the inverse of s, for v up to 2^26 and s up to 1024. Each coordinate is rounded once, to 2f in the even
+ * half, and a is the rest; the odd half is one step further to the side of a. A half whose sum is odd is mended, by two steps, where its
+ * rest is greatest, of equals at the first that goes down, else at the last that goes up. That is the greatest key in the even half and
+ * the least in the odd one. */
+NOT_IN_LOOPS struct near nearest(const int32_t *v, int32_t s, struct inverse w) {
     struct near n;
-    int32_t j[2], up[2], first[2];
-    for (int p = 0; p < 2; p++) {
-        int32_t place = h.key[p] % 16, odd = h.sum[p] & 1;
-        j[p] = place < 8 ? place : 15 - place;
-        up[p] = odd ? (place < 8 ? 1 : -1) : 0;
-        h.cost[p] += odd ? 4 * s * (s - h.key[p] / 16) : 0;
-        first[p] = h.f[p][0] + (j[p] == 0 ? up[p] : 0);
-    }
-    int p = h.cost[1] < h.cost[0] || (h.cost[1] == h.cost[0] && first[1] < first[0]);
+    int32_t f[8], a[8], key[8], greatest = 0, least = 1 << 20, sum = 0, ups = 0, sizes = 0;
     for (int i = 0; i < 8; i++) {
-        n.e[i] = 2 * h.f[p][i] + p;
-        n.r[i] = h.r[p][i];
+        f[i] = (int32_t)((2 * v[i] + 2 * s - 1) * w.times >> w.shift);
+        a[i] = v[i] - 2 * s * f[i];
+        int32_t up = 16 * a[i] + i, down = 15 - up;
+        key[i] = up > down ? up : down;
+        greatest = greatest < key[i] ? key[i] : greatest;
+        least = least < key[i] ? least : key[i];
+        sum += f[i];
+        ups += a[i] > 0;
+        sizes += key[i] >> 4;
     }
-    n.e[j[p]] += 2 * up[p];
-    n.r[j[p]] -= 2 * s * up[p];
+    int32_t odd0 = -(sum & 1), odd1 = -((sum + ups) & 1), at0 = greatest & odd0, at1 = least & odd1;
+    struct mending even = {(s - (greatest >> 4)) & odd0, key[0] == at0}, odd = {least >> 4 & odd1, key[0] == at1};
+    int32_t p = nearer_half(s, sizes, a[0] <= 0, even, odd), at = at0 ^ ((at0 ^ at1) & -p), mended = 2 - 4 * p;
+    for (int i = 0; i < 8; i++) {
+        int32_t steps = p + (mended & -(key[i] == at)), up = a[i] > 0 ? steps : -steps;
+        n.e[i] = 2 * f[i] + up;
+        n.r[i] = a[i] - s * up;
+    }
     return n;
 }
 
-/* ---- digits and layer points */
+/* ---- digits */
 
 /* The coefficients modulo q. No coordinate is past 2q, so no coefficient is past 12q. */
 static inline void layer_digits(int32_t base, const int32_t *l, uint8_t *digits) {
@@ -85,39 +94,3 @@ static inline void layer_digits(int32_t base, const int32_t *l, uint8_t *digits)
     for (int k = 0; k < 8; k++) digits[k] = (uint8_t)(c[k] - q * (c[k] * w >> 16));
 }
 
-/* The layer point of eight digits, w the inverse of q. */
-static inline void layer_point(int32_t q, int64_t w, const uint8_t *c, int32_t *l) {
-    int32_t p[8] = {
-        4 * c[0] - 2 * c[1] + c[7],
-        2 * c[1] - 2 * c[2] + c[7],
-        2 * c[2] - 2 * c[3] + c[7],
-        2 * c[3] - 2 * c[4] + c[7],
-        2 * c[4] - 2 * c[5] + c[7],
-        2 * c[5] - 2 * c[6] + c[7],
-        2 * c[6] + c[7],
-        c[7],
-    };
-    struct near n = nearest(p, q, w);
-    memcpy(l, n.r, sizeof n.r);
-}
-
-/* The row of the table for eight digits below 2: the multiplication gathers their bits in the highest byte. */
-static inline const int8_t *table_point(const uint8_t *c) {
-    uint64_t bytes;
-    memcpy(&bytes, c, sizeof bytes);
-    return layer_points[bytes * 0x0102040810204080 >> 56];
-}
-
-/* The point of the digits of all layers, from the top layer down, w the inverse of q. */
-static inline void whole_point(ek_settings settings, int64_t w, const uint8_t *digits, int32_t *e) {
-    int32_t q = settings.q, l[8];
-    memset(e, 0, 8 * sizeof *e);
-    for (int k = settings.m - 1; k >= 0; k--)
-        if (q == 2) {
-            const int8_t *row = table_point(digits + 8 * k);
-            for (int i = 0; i < 8; i++) e[i] = 2 * e[i] + row[i];
-        } else {
-            layer_point(q, w, digits + 8 * k, l);
-            for (int i = 0; i < 8; i++) e[i] = q * e[i] + l[i];
-        }
-}
