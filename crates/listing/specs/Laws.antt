@@ -1,0 +1,7 @@
+-- Proved facts of texts and listings.
+pub mod Pieces
+pub mod Numbers
+pub mod Rooms
+pub mod Words
+pub mod Texts
+pub mod Examples
