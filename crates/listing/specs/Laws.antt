@@ -1,7 +1,9 @@
 -- Proved facts of texts and listings.
+pub mod Choices
 pub mod Pieces
 pub mod Numbers
 pub mod Rooms
 pub mod Words
 pub mod Texts
+pub mod Asked
 pub mod Examples

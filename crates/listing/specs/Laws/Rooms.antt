@@ -3,7 +3,7 @@ use mathlib.Core.Path.{_≡_, refl, sym, _∙_, ap}
 use mathlib.Core.List.{List, [], _∷_, _++_}
 use Prim.Native.Nat.{ℕ, suc, _+_, _<_, _≤_}
 use native.Mathlib.Omega.{arith}
-use lib.ListN.{length, take, drop, set}
+use lib.ListN.{length, getD, take, drop, set, List·getD-append}
 use lib.Seq.{sets, sets-eq, take-at}
 
 module _ {A : Type 0} where
@@ -23,3 +23,6 @@ module _ {A : Type 0} where
 
   pub take-front : (o a : List A) → length a ≤ length o → take (length a) (sets o 0 a) ≡ a
   take-front o a h = ap (take (length a)) (sets-front o a h) ∙ take-at a (drop (length a) o) (length a) refl
+
+  pub front-at : (o a : List A) (i : ℕ) (d : A) → length a ≤ length o → i < length a → getD (sets o 0 a) i d ≡ getD a i d
+  front-at o a i d h k = ap (λ (l : List A). getD l i d) (sets-front o a h) ∙ List·getD-append a (drop (length a) o) d i k

@@ -10,6 +10,7 @@ use lib.Seq.{sets}
 use Rattle.listing.specs.declared.text.Count.the-variants as count
 use Rattle.listing.specs.declared.text.Number.the-variants.{Whole, NotOne}
 use Rattle.listing.specs.Answers.{pieceLength, numberTold, counted}
+use Rattle.listing.specs.Laws.Choices.{chosen, passed}
 use Rattle.listing.specs.Laws.Pieces.{pieces-next, full-empty, full-next}
 use Rattle.listing.specs.Laws.Rooms.{sets-more}
 use Rattle.listing.specs.Text.{space, pieces, full, isNumber, numberIn, allNumbers, numeric, numbers}
@@ -17,18 +18,10 @@ use Rattle.listing.specs.Text.{space, pieces, full, isNumber, numberIn, 
 -- what the answer to a word says of it
 module _ (w : List ℕ) where
   pub told-whole : (z : ℤ) → numberTold w ≡ Whole z → (isNumber w ≡ true) × (numberIn w ≡ z)
-  told-whole z e = go (isNumber w) refl e
-    where
-      go : (b : Bool) → isNumber w ≡ b → cond b (Whole (numberIn w)) NotOne ≡ Whole z → (isNumber w ≡ true) × (numberIn w ≡ z)
-      go true p e = (p, cc e)
-      go false p e = let n : _≡_ {A = ℕ} 0 1 = cc in absurd (omega arith)
+  told-whole z e = let t = chosen _ _ _ (isNumber w) e (λ k. let n : _≡_ {A = ℕ} 0 1 = cc in omega arith) in (t .0, cc (t .1))
 
   pub told-none : numberTold w ≡ NotOne → isNumber w ≡ false
-  told-none e = go (isNumber w) e
-    where
-      go : (b : Bool) → cond b (Whole (numberIn w)) NotOne ≡ NotOne → b ≡ false
-      go true e = let n : _≡_ {A = ℕ} 0 1 = cc in absurd (omega arith)
-      go false e = refl
+  told-none e = passed _ _ _ (isNumber w) e (λ k. let n : _≡_ {A = ℕ} 0 1 = cc in omega arith)
 
 -- the words from the place i on
 abbrev pub wordsFrom : List ℕ → ℕ → List (List ℕ)
@@ -87,11 +80,8 @@ module _ (line : List ℕ) (o : List ℤ) (i n : ℕ) (x : List ℤ) (r : Readin
       pub reading-none : {A : Type 0} → numberTold w ≡ NotOne → (counted line ≡ count.Other) × (numeric line ≡ true → A)
       reading-none h = (
         ap (λ (b : Bool). cond b (count.Numbers (length (numbers line))) count.Other) (not-numeric h),
-        λ k. let c : _≡_ {A = Bool} true false = sym k ∙ not-numeric h in absurd (differ c),
+        λ k. let f : true ≡ false = sym k ∙ not-numeric h in let z : _≡_ {A = ℕ} 0 1 = cc in absurd (omega arith),
       )
-        where
-          differ : true ≡ false → ⊥
-          differ c = let n : _≡_ {A = ℕ} 0 1 = cc in omega arith
 
   -- nothing is left
   module _ (done : length line ≤ i) where
