@@ -6,4 +6,6 @@ pub mod Rooms
 pub mod Words
 pub mod Texts
 pub mod Asked
+pub mod Decimal
+pub mod Lines
 pub mod Examples

@@ -1,5 +1,5 @@
 -- What is put into lent room from a place on, part after part.
-use mathlib.Core.Path.{_≡_, refl, sym, _∙_, ap}
+use mathlib.Core.Path.{_≡_, refl, sym, _∙_, ap, ap₂}
 use mathlib.Core.List.{List, [], _∷_, _++_}
 use Prim.Native.Nat.{ℕ, suc, _+_, _<_, _≤_}
 use native.Mathlib.Omega.{arith}
@@ -12,6 +12,10 @@ module _ {A : Type 0} where
   sets-append o i [] b = let e : i + 0 ≡ i = omega arith in ap (λ (j : ℕ). sets o j b) e
   sets-append o i (x ∷ a) b = let e : i + suc (length a) ≡ suc i + length a = omega arith in
       ap (λ (j : ℕ). sets (sets (set o i x) (suc i) a) j b) e ∙ sets-append (set o i x) (suc i) a b
+
+  -- a is put, in x, up to the place j; what is left gives the same room
+  pub put-next : (o : List A) (i : ℕ) (a b x : List A) (j : ℕ) → x ≡ sets o i a → j ≡ i + length a → sets o i (a ++ b) ≡ sets x j b
+  put-next o i a b x j e h = sym (sets-append o i a b) ∙ ap₂ (λ (x : List A) (j : ℕ). sets x j b) (sym e) (sym h)
 
   -- one entry after a
   pub sets-more : (o a : List A) (i j : ℕ) (z : A) → j ≡ i + length a → set (sets o i a) j z ≡ sets o i (a ++ (z ∷ []))
