@@ -53,10 +53,14 @@ line name l = name ++ (fields l ++ (newline ∷ []))
 
 -- ---- what is printed
 
--- a line for each layer, counted from k: its number, then its digits
+-- of layer k: its number, then its digits
+abbrev pub layerLine : ℕ → List ℕ → List ℕ
+layerLine k ds = line (bytes "layer") (pos k ∷ map pos ds)
+
+-- of layers, counted from k
 abbrev pub layerLines : ℕ → List (List ℕ) → List ℕ
 layerLines k [] = []
-layerLines k (ds ∷ l) = line (bytes "layer") (pos k ∷ map pos ds) ++ layerLines (suc k) l
+layerLines k (ds ∷ l) = layerLine k ds ++ layerLines (suc k) l
 
 -- of a block's code b: T and its step; the layers; the doubled point that it decodes to
 unfoldable pub blockListing : ℕ → ℕ → List ℤ → List ℕ → List ℕ

@@ -7,7 +7,7 @@ ghost use lib.ListN.{length};
 ghost use lib.Seq.{sets};
 ghost use Rattle.integers.specs.Vectors.{Bounded};
 ghost use Rattle.layers.specs.Digits.{cut};
-ghost use Rattle.listing.specs.Listing.{decimal, written, fields, line, layerLines};
+ghost use Rattle.listing.specs.Listing.{decimal, written, fields, line, layerLine, layerLines};
 
 // Puts the decimal digits of n from the place `at` on; answers the place after them.
 fn put_decimal(n: u64, out: &mut [u8], at: usize) -> usize
@@ -94,6 +94,16 @@ fn layer_numbers(k: usize, ds: &[u8]) -> [i64; 9]
     l
 }
 
+// The line of layer k.
+fn put_layer(k: usize, ds: &[u8], out: &mut [u8], at: usize) -> usize
+    requires { ⌜ (k ≤ 256) × (length (now ds) ≡ 8) × (at + length (layerLine k (now ds)) ≤ length (now out)) ⌝ }
+    ensures answer { λ r. ⌜ r ≡ at + length (layerLine k (now (ds .entry))) ⌝ }
+    ensures room { λ _. ⌜ now (out .exit) ≡ sets (now (out .entry)) at (layerLine k (now (ds .entry))) ⌝ }
+{
+    let l = layer_numbers(k, ds);
+    put_line(b"layer", &l, out, at)
+}
+
 // A line for each of m layers of digits.
 pub(crate) fn put_layers(ds: &[u8], m: usize, out: &mut [u8], at: usize) -> usize
     requires { ⌜ (m ≤ 256) × (length (now ds) ≡ 8 * m) × (at + length (layerLines 0 (cut 8 m (now ds))) ≤ length (now out)) ⌝ }
@@ -105,8 +115,7 @@ pub(crate) fn put_layers(ds: &[u8], m: usize, out: &mut [u8], at: usize) -> usiz
     while k < m {
         let from = 8 * k;
         let to = from + 8;
-        let l = layer_numbers(k, &ds[from..to]);
-        next = put_line(b"layer", &l, out, next);
+        next = put_layer(k, &ds[from..to], out, next);
         k = k + 1;
     }
     next
