@@ -18,7 +18,7 @@ use Rattle.listing.specs.declared.text.Lines.{Lines}
 use Rattle.listing.specs.declared.text.Lines.the-variants as three
 use Rattle.listing.specs.declared.text.Asked.{Asked}
 use Rattle.listing.specs.declared.text.Asked.the-variants.{Block, Malformed}
-use Rattle.listing.specs.Text.{textMost, allDigits, valueAfter, sizeMost, isNumber, numberIn, numeric, numbers, lines, isAsked, settingsIn}
+use Rattle.listing.specs.Text.{textMost, allDigits, valueAfter, sizeMost, isNumber, numberIn, numeric, numbers, lines, lineOf, isAsked, wellFormed, settingsIn}
 
 -- how long the first piece of a text is
 abbrev pub pieceLength : ℕ → List ℕ → ℕ
@@ -70,3 +70,7 @@ LinesFound t three.Other = (leb (length t) textMost && eqb (length (lines t)) 3)
 -- three lines in all
 abbrev pub askedTold : List ℕ → List ℕ → List ℕ → Asked
 askedTold a b c = cond (isAsked a b c) (Block (settingsIn a) (length (numbers b))) Malformed
+
+-- a text
+abbrev pub textTold : List ℕ → Asked
+textTold t = cond (wellFormed t) (Block (settingsIn (lineOf t 0)) (length (numbers (lineOf t 1)))) Malformed

@@ -8,4 +8,6 @@ pub mod Texts
 pub mod Asked
 pub mod Decimal
 pub mod Lines
+pub mod Order
+pub mod Lengths
 pub mod Examples

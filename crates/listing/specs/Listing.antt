@@ -10,6 +10,7 @@ use Rattle.blocks.specs.Trials.{blockCode}
 use Rattle.layers.specs.Digits.{cut}
 use Rattle.layers.specs.E8.{e8, nearest}
 use Rattle.refusals.specs.declared.settings.Settings.{Settings}
+use Rattle.refusals.specs.declared.Refusal.{Refusal}
 use Rattle.refusals.specs.declared.Refusal.the-variants.{Record}
 use Rattle.refusals.specs.declared.Verdict.{Verdict}
 use Rattle.refusals.specs.declared.Verdict.the-variants.{Accepted, Refused}
@@ -66,10 +67,14 @@ layerLines k (ds ∷ l) = layerLine k ds ++ layerLines (suc k) l
 unfoldable pub blockListing : ℕ → ℕ → List ℤ → List ℕ → List ℕ
 blockListing q m steps b = line (bytes "step") (pos (getD b 0 0) ∷ stepOf steps b ∷ []) ++ (layerLines 0 (cut 8 m (drop 1 b)) ++ line (bytes "point") (wholePoint q m b))
 
--- of a verdict: the listing f where it accepts, else the refusal's number and place
+-- of a refusal: its number and place
+abbrev pub refusalLine : Refusal → List ℕ
+refusalLine r = line (bytes "refused") (pos (rowOf r) ∷ pos (spotOf r) ∷ [])
+
+-- of a verdict: the listing f where it accepts, else its refusal
 abbrev pub printed : Verdict → List ℕ → List ℕ
 printed Accepted f = f
-printed (Refused r) f = line (bytes "refused") (pos (rowOf r) ∷ pos (spotOf r) ∷ [])
+printed (Refused r) f = refusalLine r
 
 -- of what three lines ask for: the eight X are coded as one block, which is refused by 1, 2, 5 or 6, in this order
 unfoldable pub checkShown : Settings → List ℤ → List ℤ → Verdict
@@ -81,3 +86,7 @@ blockShown c steps X = let q = natAbs (c .q) in let m = natAbs (c .m) in printed
 -- of a text: refused by 10 where it is malformed, before all else
 unfoldable pub shown : List ℕ → List ℕ
 shown t = printed (unless (wellFormed t) (Record 0)) (blockShown (settingsIn (lineOf t 0)) (numbers (lineOf t 1)) (numbers (lineOf t 2)))
+
+-- the most bytes that are printed
+abbrev pub roomMost : ℕ
+roomMost = 1024

@@ -4,8 +4,8 @@ ghost use mathlib.Core.Bool.{true, false};
 ghost use Prim.Native.Nat.{_+_, _*_, _-_, _≤_, min};
 ghost use lib.ListN.{length, drop};
 ghost use lib.Seq.{sets};
-ghost use Rattle.listing.specs.Answers.{pieceLength, cap, sizeOf, signed, numberTold, counted, pairTold, LinesFound, askedTold};
-ghost use Rattle.listing.specs.Text.{textMost, isDigit, numeric, numbers, isAsked};
+ghost use Rattle.listing.specs.Answers.{pieceLength, cap, sizeOf, signed, numberTold, counted, pairTold, LinesFound, askedTold, textTold};
+ghost use Rattle.listing.specs.Text.{textMost, isDigit, numeric, numbers, isAsked, lineOf, wellFormed};
 use refusals::settings::Settings;
 
 // The most bytes of a text, and the most numbers that so many bytes hold.
@@ -232,4 +232,26 @@ fn read_lines(first: &[u8], second: &[u8], third: &[u8], steps: &mut [i32], x: &
         return Asked::Malformed;
     }
     Asked::Block(s, n)
+}
+
+// What a text asks for, the steps and X to the front of the lent arrays.
+pub(crate) fn read_text(text: &[u8], steps: &mut [i32], x: &mut [i32]) -> Asked
+    requires { ⌜ (textMost ≤ 2 * length (now steps)) × (textMost ≤ 2 * length (now x)) ⌝ }
+    ensures answer { λ r. ⌜ r ≡ textTold (now (text .entry)) ⌝ }
+    ensures room { λ _. ⌜ (wellFormed (now (text .entry)) ≡ true → (now (steps .exit) ≡ sets (now (steps .entry)) 0 (numbers (lineOf (now (text .entry)) 1))) × (now (x .exit) ≡ sets (now (x .entry)) 0 (numbers (lineOf (now (text .entry)) 2)))) ⌝ }
+{
+    match find_lines(text) {
+        Lines::Other => Asked::Malformed,
+        Lines::Three(a, b, c) => {
+            let second = a + 1;
+            let third = b + 1;
+            read_lines(
+                &text[0..a],
+                &text[second..b],
+                &text[third..c],
+                steps,
+                x,
+            )
+        }
+    }
 }

@@ -2,7 +2,7 @@
 use mathlib.Core.Path.{_≡_, refl, _∙_, ap, ap₂}
 use mathlib.Core.Bool.{Bool, true, false, cond}
 use mathlib.Core.List.{List, [], _∷_}
-use Prim.Native.Nat.{ℕ, suc, _+_, _-_, _<_, _≤_}
+use Prim.Native.Nat.{ℕ, zero, suc, _+_, _-_, _<_, _≤_}
 use native.Mathlib.Decide.{decLe}
 use native.Mathlib.Omega.{arith}
 use lib.Dec.{eqb}
@@ -12,6 +12,31 @@ use Rattle.listing.specs.Answers.{pieceLength}
 use Rattle.listing.specs.Text.{led, pieces, full}
 
 module _ (mark : ℕ) where
+  -- a piece is no longer than its text
+  piece-short : (t : List ℕ) → pieceLength mark t ≤ length t
+  piece-short [] = omega arith
+  piece-short (b ∷ t) = go (eqb b mark) (piece-short t)
+    where
+      go : (e : Bool) → pieceLength mark t ≤ length t → cond e 0 (suc (pieceLength mark t)) ≤ suc (length t)
+      go true h = omega arith
+      go false h = omega arith
+
+  pub piece-within : (t : List ℕ) (i : ℕ) → i ≤ length t → i + pieceLength mark (drop i t) ≤ length t
+  piece-within t i h = omega (arith, piece-short (drop i t), length-drop i t)
+
+  -- nor is any other
+  pub pieces-short : (t : List ℕ) (i : ℕ) → length (getD (pieces mark t) i []) ≤ length t
+  pieces-short [] i = omega arith
+  pieces-short (b ∷ t) i = go (eqb b mark) (pieces mark t) i (λ j. pieces-short t j)
+    where
+      go : (e : Bool) (l : List (List ℕ)) (i : ℕ) → ((j : ℕ) → length (getD l j []) ≤ length t) → length (getD (led e b l) i []) ≤ suc (length t)
+      go true l zero h = omega arith
+      go true l (suc i) h = omega (arith, h i)
+      go false [] zero h = omega arith
+      go false [] (suc i) h = omega arith
+      go false (p ∷ l) zero h = omega (arith, h 0)
+      go false (p ∷ l) (suc i) h = omega (arith, h (suc i))
+
   -- a piece ends at i or goes on past i
   pub piece-next : (t : List ℕ) (i : ℕ) → i < length t → pieceLength mark (drop i t) ≡ cond (eqb (getD t i 0) mark) 0 (suc (pieceLength mark (drop (suc i) t)))
   piece-next t i h = ap (pieceLength mark) (drop-cons t i 0 h)

@@ -2,18 +2,19 @@
 use mathlib.Core.Path.{_≡_, refl, sym, _∙_, ap, ap₂}
 use mathlib.Core.Bool.{Bool, true, false, _&&_, cond}
 use mathlib.Core.List.{List, [], _∷_, _++_, map, append-nil, append-assoc}
-use Prim.Native.Nat.{ℕ, suc, _+_, _-_, _<_, _≤_}
+use Prim.Native.Nat.{ℕ, zero, suc, _+_, _*_, _-_, _<_, _≤_}
+use native.Mathlib.Decide.{decLe}
 use native.Mathlib.Omega.{arith}
 use lib.IntN.{ℤ}
-use lib.ListN.{length, take, drop, set, length-append, length-take, length-drop, drop-of-length-le}
+use lib.ListN.{length, take, drop, set, length-append, length-take, length-drop, length-map, drop-of-length-le}
 use lib.Seq.{sets}
 use Rattle.listing.specs.declared.text.Count.the-variants as count
 use Rattle.listing.specs.declared.text.Number.the-variants.{Whole, NotOne}
 use Rattle.listing.specs.Answers.{pieceLength, numberTold, counted}
 use Rattle.listing.specs.Laws.Choices.{chosen, passed}
-use Rattle.listing.specs.Laws.Pieces.{pieces-next, full-empty, full-next}
+use Rattle.listing.specs.Laws.Pieces.{piece-within, pieces-next, full-empty, full-next}
 use Rattle.listing.specs.Laws.Rooms.{sets-more}
-use Rattle.listing.specs.Text.{space, pieces, full, isNumber, numberIn, allNumbers, numeric, numbers}
+use Rattle.listing.specs.Text.{space, pieces, full, words, isNumber, numberIn, allNumbers, numeric, numbers}
 
 -- what the answer to a word says of it
 module _ (w : List ℕ) where
@@ -96,3 +97,28 @@ module _ (line : List ℕ) (o : List ℤ) (i n : ℕ) (x : List ℤ) (r : Readin
       ap (λ (b : Bool). cond b (count.Numbers (length (numbers line))) count.Other) (r .verdict ∙ ap allNumbers none-left) ∙ ap count.Numbers (ap length all-read ∙ r .long),
       r .room ∙ ap (sets o 0) (sym all-read),
     )
+
+-- a number takes a byte, and a space before the next: a line of n bytes has at most half of n + 1
+module _ (line : List ℕ) where
+  none-from : (i : ℕ) → length line ≤ i → 2 * length (wordsFrom line i) ≤ length line + 1 - i
+  none-from i h = omega (arith, ap (λ (l : List ℕ). length (full (pieces space l))) (drop-of-length-le line {i = i} h))
+
+  next-from : (i : ℕ) → i < length line → ((j : ℕ) → i < j → 2 * length (wordsFrom line j) ≤ length line + 1 - j) → 2 * length (wordsFrom line i) ≤ length line + 1 - i
+  next-from i h later =
+      let e : ℕ = i + pieceLength space (drop i line) in let most : e ≤ length line = piece-within space line i (omega arith) in
+      let w : List ℕ = take (e - i) (drop i line) in let rest : List (List ℕ) = pieces space (drop (e + 1) line) in
+      let opened : wordsFrom line i ≡ full (w ∷ rest) = ap full (pieces-next space line i e refl h) in let below = later (e + 1) (omega arith) in
+      elim (decLe e i) [
+        | yes l ↦ omega (arith, ap length (opened ∙ full-empty w rest (simp (length-take, length-drop) (omega arith))), below)
+        | no l ↦ omega (arith, ap length (opened ∙ full-next w rest (simp (length-take, length-drop) (omega arith))), below)
+      ]
+
+  few-from : (k i : ℕ) → length line ≤ k + i → 2 * length (wordsFrom line i) ≤ length line + 1 - i
+  few-from zero i h = none-from i (omega arith)
+  few-from (suc k) i h = elim (decLe (length line) i) [
+    | yes m ↦ none-from i m
+    | no m ↦ next-from i (omega arith) (λ j g. few-from k j (omega arith))
+  ]
+
+  pub numbers-few : 2 * length (numbers line) ≤ length line + 1
+  numbers-few = omega (arith, few-from (length line) 0 (omega arith), length-map (words line) numberIn)
