@@ -1,10 +1,10 @@
 -- What each function of the reader answers, part by part of a text.
 use mathlib.Core.Path.{_≡_}
 use mathlib.Core.Bool.{Bool, true, false, _&&_, cond}
-use mathlib.Core.List.{List, [], _∷_, _++_}
+use mathlib.Core.List.{List, [], _∷_}
 use Prim.Native.Nat.{ℕ, suc, _+_, _-_, _^_, _<_, _≤_, min}
 use lib.Dec.{eqb, leb}
-use lib.IntN.{ℤ, pos, negℤ}
+use lib.IntN.{pos, negℤ}
 use lib.ListN.{length, take, drop}
 use Rattle.listing.specs.declared.text.Size.{Size}
 use Rattle.listing.specs.declared.text.Size.the-variants.{Of, NoDigits}

@@ -15,7 +15,7 @@ use Rattle.refusals.specs.declared.Refusal.the-variants.{Record}
 use Rattle.refusals.specs.declared.Verdict.{Verdict}
 use Rattle.refusals.specs.declared.Verdict.the-variants.{Accepted, Refused}
 use Rattle.refusals.specs.Limits.{mMost}
-use Rattle.refusals.specs.Verdicts.{rowOf, spotOf, unless, firstRefusal}
+use Rattle.refusals.specs.Verdicts.{rowOf, spotOf, unless}
 use Rattle.records.specs.Codes.{codeLength, stepOf, wholePoint}
 use Rattle.records.specs.Vectors.{unitsHour}
 use Rattle.encoding.specs.Encode.{checkEncode}

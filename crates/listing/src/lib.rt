@@ -30,10 +30,7 @@ fn put_refusal(r: Refusal, out: &mut [u8]) -> usize
     ensures room { λ _. ⌜ now (out .exit) ≡ sets (now (out .entry)) 0 (refusalLine r) ⌝ }
 {
     let v = Verdict::Refused(r);
-    let l = [
-        refusals::number_of(v) as i64,
-        refusals::place_of(v) as i64,
-    ];
+    let l = [refusals::number_of(v) as i64, refusals::place_of(v) as i64];
     lines::put_line(b"refused", &l, out, 0)
 }
 

@@ -245,13 +245,7 @@ pub(crate) fn read_text(text: &[u8], steps: &mut [i32], x: &mut [i32]) -> Asked
         Lines::Three(a, b, c) => {
             let second = a + 1;
             let third = b + 1;
-            read_lines(
-                &text[0..a],
-                &text[second..b],
-                &text[third..c],
-                steps,
-                x,
-            )
+            read_lines(&text[0..a], &text[second..b], &text[third..c], steps, x)
         }
     }
 }

@@ -1,5 +1,5 @@
 -- What the answers of the reader say of its lines, and what three of them ask for.
-use mathlib.Core.Path.{_≡_, refl, sym, _∙_, ap, ap₂}
+use mathlib.Core.Path.{_≡_, sym, _∙_, ap, ap₂}
 use mathlib.Core.Bool.{Bool, true, false, _&&_, cond, and-false}
 use mathlib.Core.List.{List}
 use Prim.Native.Nat.{ℕ}
@@ -11,9 +11,9 @@ use Rattle.refusals.specs.declared.settings.Settings.{Settings}
 use Rattle.listing.specs.declared.text.Asked.the-variants.{Block, Malformed}
 use Rattle.listing.specs.declared.text.Count.the-variants as count
 use Rattle.listing.specs.declared.text.Pair.the-variants as pair
-use Rattle.listing.specs.Answers.{counted, pairTold, askedTold}
+use Rattle.listing.specs.Answers.{counted, pairTold, askedTold, textTold}
 use Rattle.listing.specs.Laws.Choices.{chosen, passed}
-use Rattle.listing.specs.Text.{numeric, numbers, settingsIn, isAsked}
+use Rattle.listing.specs.Text.{numeric, numbers, settingsIn, lineOf, isAsked, wellFormed}
 
 module _ (l : List ℕ) where
   -- a line that holds numbers only, or another
@@ -73,3 +73,11 @@ module _ (a b c : List ℕ) where
   pub asked-is : two a ≡ true → numeric b ≡ true → numeric c ≡ true → length (numbers c) ≡ 8 → isAsked a b c ≡ true
   unfolding isAsked
   asked-is p q r h = ap₂ (λ (p q : Bool). test p q (numeric c) (eqb (length (numbers c)) 8)) p q ∙ ap₂ _&&_ r (eq-eqb (length (numbers c)) 8 h)
+
+-- what the answer to a text says of it
+module _ (t : List ℕ) where
+  pub told-block : (c : Settings) (n : ℕ) → textTold t ≡ Block c n → (wellFormed t ≡ true) × (settingsIn (lineOf t 0) ≡ c) × (length (numbers (lineOf t 1)) ≡ n)
+  told-block c n e = let b = chosen _ _ _ (wellFormed t) e (λ k. let z : _≡_ {A = ℕ} 0 1 = cc in omega arith) in (b .0, cc (b .1), cc (b .1))
+
+  pub told-malformed : textTold t ≡ Malformed → wellFormed t ≡ false
+  told-malformed e = passed _ _ _ (wellFormed t) e (λ k. let z : _≡_ {A = ℕ} 0 1 = cc in omega arith)

@@ -1,18 +1,17 @@
 -- What is printed is short: no number of it has more than ten digits, so that 1,024 bytes hold it.
-use mathlib.Core.Path.{_≡_, refl, sym, _∙_, ap, subst}
+use mathlib.Core.Path.{_≡_, refl, _∙_, ap, subst}
 use mathlib.Core.Bool.{Bool, true, false}
 use mathlib.Core.List.{List, [], _∷_, _++_, map}
-use Prim.Native.Nat.{ℕ, zero, suc, _+_, _*_, _-_, _^_, _<_, _≤_}
+use Prim.Native.Nat.{ℕ, zero, suc, _+_, _*_, _-_, _^_, _≤_}
 use native.Mathlib.Omega.{arith}
 use lib.IntN.{ℤ, pos, negsuc, natAbs}
 use lib.ListN.{length, getD, drop, length-append, length-map}
-use Rattle.integers.specs.Vectors.{«at», Bounded, Sized}
+use Rattle.integers.specs.Vectors.{Bounded, Sized}
 use Rattle.blocks.specs.Trials.{blockCode}
-use Rattle.layers.specs.Digits.{IsLayer, IsLayers, IsCode, cut}
+use Rattle.layers.specs.Digits.{IsLayer, IsLayers, cut}
 use Rattle.layers.specs.E8.{e8, nearest, decode8}
 use Rattle.layers.specs.Laws.Bases.{digits-sized, decode8-sized}
 use Rattle.layers.specs.Laws.Rows.{cut-layers}
-use Rattle.layers.specs.Sizes.{Base}
 use Rattle.refusals.specs.declared.settings.Settings.{Settings}
 use Rattle.refusals.specs.declared.Refusal.{Refusal}
 use Rattle.refusals.specs.declared.Refusal.the-variants.{Settings as BadSettings, Steps, Size, Missing, OutOfRange, Overload, Byte, Table, Point, Record, EmptyStore}
@@ -69,17 +68,32 @@ module _ (q : ℤ) (m : ℕ) (steps : List ℤ) (coder : Coder q m steps) (b : L
   pub point-small : Small (wholePoint (natAbs q) m b)
   point-small i = omega (arith, point-sized .small i)
 
-  pub listing-most : length (blockListing (natAbs q) m steps b) ≤ roomMost
+  -- its lines
+  abbrev pub stepLine : List ℕ
+  stepLine = line (bytes "step") (pos (getD b 0 0) ∷ stepOf steps b ∷ [])
+
+  abbrev pub layersLines : List ℕ
+  layersLines = layerLines 0 (cut 8 m (drop 1 b))
+
+  abbrev pub pointLine : List ℕ
+  pointLine = line (bytes "point") (wholePoint (natAbs q) m b)
+
+  pub listing-is : blockListing (natAbs q) m steps b ≡ stepLine ++ (layersLines ++ pointLine)
   unfolding blockListing
+  listing-is = refl
+
+  pub listing-long : length (blockListing (natAbs q) m steps b) ≡ length stepLine + length layersLines + length pointLine
+  listing-long = ap length listing-is ∙ omega (arith, length-append stepLine (layersLines ++ pointLine), length-append layersLines pointLine)
+
+  pub listing-most : length (blockListing (natAbs q) m steps b) ≤ roomMost
   listing-most =
-      let first : List ℕ = line (bytes "step") (pos (getD b 0 0) ∷ stepOf steps b ∷ []) in let second : List ℕ = layerLines 0 (cut 8 m (drop 1 b)) in let third : List ℕ = line (bytes "point") (wholePoint (natAbs q) m b) in
       let step = line-most (bytes "step") (pos (getD b 0 0) ∷ stepOf steps b ∷ []) step-small in let point = line-most (bytes "point") (wholePoint (natAbs q) m b) point-small in
       let layers = layers-most 0 (natAbs q) m (cut 8 m (drop 1 b)) (omega (arith, coder .few)) (omega (arith, coder .base .most)) (cut-layers 8 (natAbs q) m (drop 1 b) (block .code)) in
-      omega (arith, length-append first (second ++ third), length-append second third, step, layers, point, point-sized .long, coder .few)
+      omega (arith, listing-long, step, layers, point, point-sized .long, coder .few)
 
 -- ---- a refusal
 
-row-most : (r : Refusal) → rowOf r ≤ 11
+pub row-most : (r : Refusal) → rowOf r ≤ 11
 row-most BadSettings = omega arith
 row-most (Steps p) = omega arith
 row-most (Size p) = omega arith

@@ -1,6 +1,6 @@
 -- Lines as they are put: numbers by their sign, fields and layers one after the other, and how long all of it is at most.
-use mathlib.Core.Path.{_≡_, refl, sym, _∙_, ap, ap₂, subst}
-use mathlib.Core.List.{List, [], _∷_, _++_, map, append-assoc}
+use mathlib.Core.Path.{_≡_, refl, sym, _∙_, ap}
+use mathlib.Core.List.{List, _∷_, _++_, map}
 use Prim.Native.Nat.{ℕ, zero, suc, _+_, _*_, _-_, _^_, _<_, _≤_}
 use native.Mathlib.Numerals.{add-one}
 use native.Mathlib.Omega.{arith}
@@ -13,10 +13,9 @@ use Rattle.integers.specs.Laws.Linear.{Z}
 use Rattle.integers.specs.Vectors.{«at», Bounded}
 use Rattle.layers.specs.Digits.{cut}
 use Rattle.records.specs.Laws.Parts.{cut-next}
-use Rattle.listing.specs.Laws.Decimal.{decimal-long}
 use Rattle.listing.specs.Laws.Rooms.{put-next}
-use Rattle.listing.specs.Listing.{decimal, written, fields, line, layerLine, layerLines}
-use Rattle.listing.specs.Text.{newline, space, minus, bytes}
+use Rattle.listing.specs.Listing.{decimal, written, fields, layerLine, layerLines}
+use Rattle.listing.specs.Text.{space, minus}
 
 -- ---- a number by its sign
 

@@ -1,25 +1,21 @@
 -- Words as numbers: digits taken one by one, their value kept under a cap, and what is left of the limits then.
-use mathlib.Core.Path.{_≡_, refl, sym, _∙_, ap, ap₂}
+use mathlib.Core.Path.{_≡_, refl, sym, _∙_, ap}
 use mathlib.Core.Bool.{Bool, true, false, _&&_, cond}
 use mathlib.Core.List.{List, [], _∷_}
-use Prim.Native.Nat.{ℕ, suc, _+_, _*_, _-_, _^_, _<_, _≤_, min}
+use Prim.Native.Nat.{ℕ, suc, _+_, _*_, _-_, _<_, _≤_, min}
 use Prim.Native.Char.{code}
 use native.Mathlib.Decide.{decLe}
 use native.Mathlib.Omega.{arith}
-use borrow.Author.Tests.{leb-true, leb-false, le-leb, lt-leb, eqb-true, eq-eqb, ne-eqb}
+use borrow.Author.Tests.{leb-true, lt-leb, eq-eqb, ne-eqb}
 use lib.Dec.{eqb, leb}
-use lib.IntN.{ℤ, pos, negsuc, negℤ}
+use lib.IntN.{ℤ, pos, negℤ}
 use lib.ListN.{length, getD, drop}
 use lib.Seq.{drop-cons}
-use mir.Syntax.{w32}
-use mir.Val.{SFits}
 use Rattle.integers.specs.Laws.Tests.{and-true}
-use Rattle.listing.specs.declared.text.Size.{Size}
 use Rattle.listing.specs.declared.text.Size.the-variants.{Of, NoDigits}
-use Rattle.listing.specs.declared.text.Number.{Number}
 use Rattle.listing.specs.declared.text.Number.the-variants.{Whole, NotOne}
 use Rattle.listing.specs.Answers.{cap, sizeAfter, sizeOf, signed, numberTold}
-use Rattle.listing.specs.Text.{minus, isDigit, allDigits, valueAfter, hasMinus, unsigned, sizeMost, isNumber, numberIn}
+use Rattle.listing.specs.Text.{minus, isDigit, allDigits, valueAfter, hasMinus, sizeMost, isNumber, numberIn}
 
 -- a digit is from 0 to 9
 pub digit-range : (b : ℕ) → isDigit b ≡ true → (code "0" ≤ b) × (b ≤ code "9")

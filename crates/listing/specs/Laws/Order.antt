@@ -1,8 +1,8 @@
 -- What is shown of eight X: the order of its refusals, and what it says that none is given.
-use mathlib.Core.Path.{_≡_, refl, sym, _∙_, ap, ap₂, subst}
+use mathlib.Core.Path.{_≡_, refl, sym, _∙_, ap, ap₂}
 use mathlib.Core.Bool.{Bool, true, false, cond}
 use mathlib.Core.List.{List, [], _∷_, _++_, map, append-nil}
-use Prim.Native.Nat.{ℕ, zero, suc, _+_, _*_, _/_, _<_, _≤_}
+use Prim.Native.Nat.{ℕ, suc, _+_, _/_, _<_, _≤_}
 use native.Mathlib.Decide.{decLe}
 use native.Mathlib.Omega.{arith}
 use borrow.Author.Tests.{le-leb}
@@ -20,7 +20,7 @@ use Rattle.readings.specs.declared.Measured.the-variants as measured
 use Rattle.readings.specs.Taking.{measureUnits}
 use Rattle.refusals.specs.declared.settings.Settings.{Settings}
 use Rattle.refusals.specs.declared.Refusal.{Refusal}
-use Rattle.refusals.specs.declared.Refusal.the-variants.{Settings as BadSettings, Steps, Size, Overload}
+use Rattle.refusals.specs.declared.Refusal.the-variants.{Settings as BadSettings, Steps, Size, Overload, Record}
 use Rattle.refusals.specs.declared.Verdict.{Verdict}
 use Rattle.refusals.specs.declared.Verdict.the-variants.{Accepted, Refused}
 use Rattle.refusals.specs.Answers.{valued, written}
@@ -36,7 +36,8 @@ use Rattle.records.specs.Laws.Hours.{units-taken}
 use Rattle.records.specs.Vectors.{Hour, unitsHour, checkReadings, unitsTaken, blocksOf, inBlocks}
 use Rattle.encoding.specs.Encode.{checkFits, codeBytes, codeRecord, encodeAsked, checkEncode, encoded, encodedRoom}
 use Rattle.encoding.specs.Laws.Encode.{fits-none}
-use Rattle.listing.specs.Listing.{checkShown}
+use Rattle.listing.specs.Listing.{blockListing, refusalLine, printed, checkShown, blockShown, shown}
+use Rattle.listing.specs.Text.{lineOf, numbers, settingsIn, wellFormed}
 
 -- the frame passes, and so does the room where the settings do
 in-order : (a b f g r k l : Verdict) → f ≡ Accepted → (a ≡ Accepted → g ≡ Accepted) → (r ≡ Accepted → k ≡ l) → firstRefusal (firstRefusal (a ∷ b ∷ f ∷ g ∷ []) ∷ r ∷ k ∷ []) ≡ firstRefusal (a ∷ b ∷ r ∷ l ∷ [])
@@ -156,3 +157,23 @@ encoded-verdict c steps h room = go (checkEncode c steps h room) (pos (codeLengt
     go : (v : Verdict) (z : ℤ) → valued v z .verdict ≡ v
     go Accepted z = refl
     go (Refused r) z = refl
+
+-- what is shown of eight X by their verdict
+module _ (c : Settings) (steps X : List ℤ) where
+  pub block-refused : (r : Refusal) → checkShown c steps X ≡ Refused r → refusalLine r ≡ blockShown c steps X
+  unfolding blockShown
+  block-refused r e = let q = natAbs (c .q) in let m = natAbs (c .m) in ap (λ (v : Verdict). printed v (blockListing q m steps (blockCode e8 nearest q m steps X))) (sym e)
+
+  pub block-accepted : checkShown c steps X ≡ Accepted → let q = natAbs (c .q) in let m = natAbs (c .m) in blockListing q m steps (blockCode e8 nearest q m steps X) ≡ blockShown c steps X
+  unfolding blockShown
+  block-accepted e = let q = natAbs (c .q) in let m = natAbs (c .m) in ap (λ (v : Verdict). printed v (blockListing q m steps (blockCode e8 nearest q m steps X))) (sym e)
+
+-- what is shown of a text by its form
+module _ (t : List ℕ) where
+  pub text-malformed : wellFormed t ≡ false → refusalLine (Record 0) ≡ shown t
+  unfolding shown
+  text-malformed e = ap (λ (b : Bool). printed (unless b (Record 0)) (blockShown (settingsIn (lineOf t 0)) (numbers (lineOf t 1)) (numbers (lineOf t 2)))) (sym e)
+
+  pub text-formed : wellFormed t ≡ true → blockShown (settingsIn (lineOf t 0)) (numbers (lineOf t 1)) (numbers (lineOf t 2)) ≡ shown t
+  unfolding shown
+  text-formed e = ap (λ (b : Bool). printed (unless b (Record 0)) (blockShown (settingsIn (lineOf t 0)) (numbers (lineOf t 1)) (numbers (lineOf t 2)))) (sym e)

@@ -9,7 +9,7 @@ use lib.IntN.{ℤ, pos}
 use lib.ListN.{length, getD, take, set, length-set, length-map, drop-of-length-le}
 use lib.Seq.{sets, take-suc, take-all, length-take-le}
 use mir.Syntax.{w64}
-use mir.Val.{SFits, toZ}
+use mir.Val.{toZ}
 use mir.Facts.{toZ-pos}
 use Rattle.integers.specs.Vectors.{zeros}
 use Rattle.listing.specs.Laws.Rooms.{sets-more, sets-front}

@@ -1,9 +1,9 @@
 -- `put_layer` puts the line of the layer's number and digits.
 use borrow.Author.Needs.{needs}
-use mathlib.Core.Path.{_≡_, sym, _∙_, ap, subst}
-use mathlib.Core.List.{List, _∷_, map}
-use Prim.Native.Nat.{ℕ, _+_, _^_, _≤_}
-use lib.IntN.{ℤ, pos}
+use mathlib.Core.Path.{sym, _∙_, ap, subst}
+use mathlib.Core.List.{List}
+use Prim.Native.Nat.{_+_, _^_, _≤_}
+use lib.IntN.{ℤ}
 use lib.ListN.{length}
 use lib.Seq.{sets}
 use Rattle.integers.specs.Vectors.{Bounded}

@@ -1,12 +1,11 @@
 -- `put_line` puts the name, the fields and the newline one after the other.
-use borrow.Author.Needs.{needs}
 use mathlib.Core.Path.{_≡_, sym, _∙_, ap}
 use mathlib.Core.List.{List, [], _∷_, _++_}
 use Prim.Native.Nat.{ℕ, suc, _+_, _≤_}
 use native.Mathlib.Omega.{arith}
 use lib.IntN.{ℤ}
-use lib.ListN.{length, set, length-set, length-append}
-use lib.Seq.{sets, length-sets}
+use lib.ListN.{length, length-set, length-append}
+use lib.Seq.{length-sets}
 use Rattle.listing.specs.Laws.Rooms.{put-next}
 use Rattle.listing.specs.Listing.{fields, line}
 use Rattle.listing.specs.Text.{newline}

@@ -1,5 +1,5 @@
 -- `digits_size` walks the digits: those that are left, after the value so far, give the same size as all.
-use mathlib.Core.Path.{_≡_, refl, sym, _∙_, ap, ap₂}
+use mathlib.Core.Path.{_≡_, sym, _∙_, ap, ap₂}
 use mathlib.Core.Bool.{Bool, cond}
 use mathlib.Core.List.{List}
 use Prim.Native.Nat.{ℕ, suc, _-_, _≤_}
@@ -7,8 +7,7 @@ use native.Mathlib.Numerals.{add-one}
 use native.Mathlib.Omega.{arith}
 use borrow.Author.Needs.{needs}
 use borrow.Author.Tests.{le-leb, lt-leb}
-use lib.ListN.{length, getD, drop, drop-of-length-le}
-use Rattle.listing.specs.declared.text.Size.{Size}
+use lib.ListN.{length, drop, drop-of-length-le}
 use Rattle.listing.specs.declared.text.Size.the-variants.{Of, NoDigits}
 use Rattle.listing.specs.Answers.{cap, sizeAfter, sizeOf}
 use Rattle.listing.specs.Laws.Numbers.{size-next, size-none}

@@ -1,5 +1,4 @@
 -- `find_lines` finds the lines one after the other; where one is missing, or a fourth follows, the laws say that they are not three.
-use borrow.Author.Needs.{needs}
 use mathlib.Core.List.{List}
 use Prim.Native.Nat.{ℕ}
 use native.Mathlib.Omega.{arith}

@@ -1,5 +1,5 @@
 -- `from_zero` takes a size up to 2 ^ 31 - 1 as it is.
-use mathlib.Core.Path.{_≡_, sym, _∙_, ap}
+use mathlib.Core.Path.{sym, _∙_, ap}
 use mathlib.Core.Bool.{Bool, false, cond}
 use Prim.Native.Nat.{_-_, _^_}
 use native.Mathlib.Omega.{arith}
@@ -7,7 +7,6 @@ use borrow.Author.Needs.{needs}
 use borrow.Author.Tests.{le-leb, lt-leb}
 use lib.IntN.{pos}
 use mir.Syntax.{w32}
-use mir.Val.{toZ}
 use mir.Facts.{toZ-pos}
 use Rattle.listing.specs.declared.text.Number.the-variants.{Whole, NotOne}
 use Rattle.listing.specs.Answers.{signed}

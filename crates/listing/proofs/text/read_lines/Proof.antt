@@ -6,11 +6,9 @@ use mathlib.Core.List.{List}
 use Prim.Native.Nat.{ℕ}
 use native.Mathlib.Omega.{arith}
 use lib.ListN.{length}
-use Rattle.refusals.specs.declared.settings.Settings.{Settings}
 use Rattle.listing.specs.declared.text.Asked.the-variants.{Block, Malformed}
-use Rattle.listing.specs.Answers.{askedTold}
 use Rattle.listing.specs.Laws.Asked.{counted-numbers, counted-other, pair-two, pair-other, asked-not, first-not, second-not, third-not, eight-not, asked-is}
-use Rattle.listing.specs.Text.{numeric, numbers, settingsIn, isAsked}
+use Rattle.listing.specs.Text.{numeric, numbers, settingsIn}
 use Rattle.listing.proofs.text.read_lines.Statement.{statement}
 use Rattle.listing.proofs.text.read_lines.Tie as tie
 

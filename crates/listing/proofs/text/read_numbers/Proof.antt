@@ -2,13 +2,12 @@
 use borrow.Author.Needs.{needs}
 use mathlib.Core.Path.{_≡_, refl, sym, _∙_}
 use mathlib.Core.List.{List}
-use Prim.Native.Nat.{ℕ, suc, _+_, _*_, _-_, _≤_}
+use Prim.Native.Nat.{ℕ, suc, _*_, _-_, _≤_}
 use native.Mathlib.Omega.{arith}
 use lib.IntN.{ℤ}
-use lib.ListN.{length, take, drop, set, length-set}
+use lib.ListN.{length, take, drop, length-set}
 use mir.Syntax.{w32}
 use mir.Val.{toZ, ofZ}
-use Rattle.listing.specs.Answers.{numberTold}
 use Rattle.listing.specs.Laws.Words.{Reading, reading-start, reading-space, word-some, reading-number, reading-none, reading-done}
 use Rattle.listing.proofs.text.read_numbers.Statement.{statement}
 use Rattle.listing.proofs.text.read_numbers.Tie as tie

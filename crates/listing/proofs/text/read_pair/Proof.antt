@@ -1,19 +1,18 @@
 -- `read_pair` takes the two numbers from the front of the room where they were read.
 use borrow.Author.Needs.{needs}
-use mathlib.Core.Path.{_≡_, refl, sym, _∙_, ap, ap₂}
-use mathlib.Core.Bool.{Bool, true, false, _&&_, and-false}
+use mathlib.Core.Path.{_≡_, sym, _∙_, ap, ap₂}
+use mathlib.Core.Bool.{Bool, true, _&&_, and-false}
 use mathlib.Core.List.{List}
 use Prim.Native.Nat.{ℕ, _<_}
 use native.Mathlib.Omega.{arith}
 use borrow.Author.Tests.{eq-eqb, ne-eqb}
 use lib.Dec.{eqb}
 use lib.IntN.{ℤ, pos}
-use lib.ListN.{length, getD, replicate}
+use lib.ListN.{length}
 use mir.Syntax.{w32}
 use mir.Val.{SFits}
 use mir.Facts.{toZ-ofZ}
 use Rattle.integers.specs.Vectors.{«at», zeros}
-use Rattle.refusals.specs.declared.settings.Settings.{Settings}
 use Rattle.listing.specs.declared.text.Pair.the-variants.{Two}
 use Rattle.listing.specs.Laws.Asked.{counted-numbers, counted-other, pair-not, pair-is}
 use Rattle.listing.specs.Laws.Rooms.{front-at}

@@ -2,8 +2,6 @@
 use borrow.Author.Needs.{needs}
 use mathlib.Core.Path.{_∙_, ap}
 use mathlib.Core.Bool.{true, false}
-use native.Mathlib.Omega.{arith}
-use lib.ListN.{drop}
 use Rattle.records.specs.Laws.Parts.{rest-whole}
 use Rattle.listing.specs.Answers.{sizeOf, signed}
 use Rattle.listing.specs.Laws.Numbers.{number-minus, number-plain}
