@@ -19,8 +19,8 @@ C_VERSIONS(gcc)
 C_VERSIONS(clang)
 #endif
 
-/* How many rounds of runs: fewer where they take longer than a second. */
-enum { LEAST_ROUNDS = 5, ROUNDS = 200, MOST_TIME = 1000000000 };
+/* How many rounds of runs: fewer where they take longer than two seconds. */
+enum { LEAST_ROUNDS = 5, ROUNDS = 200, MOST_TIME = 2000000000 };
 
 static int32_t input[BLOCKS][8];
 static uint8_t digits[BLOCKS][32];
@@ -66,6 +66,11 @@ void compare(const char *job, struct way *ways, int n) {
         sink += sum; \
         return (now() - start) / BLOCKS; \
     }
+
+/* Prints that C answers another point than the library. */
+static void look_for_difference(const char *job, int i, ek_point library, ek_point c) {
+    if (memcmp(&library, &c, sizeof c) != 0) printf("%s DIFFERS at block %d\n", job, i);
+}
 
 /* ---- taking a reading */
 
@@ -124,8 +129,13 @@ static void nearest_point(int32_t s, int32_t most) {
     step = s;
     for (int i = 0; i < BLOCKS; i++) {
         for (int j = 0; j < 8; j++) input[i][j] = (int32_t)(next() % (2 * (uint64_t)most + 1)) - most;
-        ek_point a = ek_nearest(input[i], 8, s), b = gcc_fast(input[i], 8, s), c = gcc_plain(input[i], 8, s);
-        if (memcmp(&a, &b, sizeof a) != 0 || memcmp(&a, &c, sizeof a) != 0) printf("nearest point DIFFERS at block %d\n", i);
+        ek_point a = ek_nearest(input[i], 8, s);
+        look_for_difference("nearest point", i, a, gcc_fast(input[i], 8, s));
+        look_for_difference("nearest point", i, a, gcc_plain(input[i], 8, s));
+#ifdef CLANG
+        look_for_difference("nearest point", i, a, clang_fast(input[i], 8, s));
+        look_for_difference("nearest point", i, a, clang_plain(input[i], 8, s));
+#endif
     }
     struct way ways[] = {
         {"library", run_ek_nearest, 0},
@@ -166,23 +176,35 @@ static void whole_decoding(int32_t q, int32_t m) {
     settings = (ek_settings){q, m};
     for (int i = 0; i < BLOCKS; i++) {
         for (int j = 0; j < 8 * m; j++) digits[i][j] = next() % q;
-        ek_point a = ek_point_of_digits(settings, digits[i], 8 * m), b = gcc_point_of_digits(settings, digits[i], 8 * m);
-        if (memcmp(&a, &b, sizeof a) != 0) printf("whole decoding DIFFERS at block %d\n", i);
+        ek_point a = ek_point_of_digits(settings, digits[i], 8 * m);
+        look_for_difference("whole decoding", i, a, gcc_point_of_digits(settings, digits[i], 8 * m));
+#ifdef CLANG
+        look_for_difference("whole decoding", i, a, clang_point_of_digits(settings, digits[i], 8 * m));
+#endif
     }
     struct way ways[] = WAYS(point_of_digits);
     compare_layers("whole decoding", ways);
 }
 
+/* Looks whether C codes a block as the library does. */
+static void look_at_coding(code_fn *c, int i) {
+    uint8_t other[32];
+    memcpy(other, digits[i], sizeof other);
+    ek_point a = ek_digits_of_point(settings, input[i], 8, digits[i], 32);
+    look_for_difference("coding a point", i, a, c(settings, input[i], 8, other, 32));
+    if (memcmp(digits[i], other, sizeof other) != 0) printf("coding a point DIFFERS in digits at block %d\n", i);
+}
+
 static void coding(int32_t q, int32_t m, int32_t most) {
     settings = (ek_settings){q, m};
     for (int i = 0; i < BLOCKS; i++) {
-        uint8_t other[32];
         int32_t d[8];
         for (int j = 0; j < 8; j++) d[j] = (int32_t)(next() % (2 * (uint64_t)most + 1)) - most;
         memcpy(input[i], ek_nearest(d, 8, 1).e, sizeof input[i]);
-        memcpy(other, digits[i], sizeof other);
-        ek_point a = ek_digits_of_point(settings, input[i], 8, digits[i], 32), b = gcc_digits_of_point(settings, input[i], 8, other, 32);
-        if (memcmp(&a, &b, sizeof a) != 0 || memcmp(digits[i], other, sizeof other) != 0) printf("coding a point DIFFERS at block %d\n", i);
+        look_at_coding(gcc_digits_of_point, i);
+#ifdef CLANG
+        look_at_coding(clang_digits_of_point, i);
+#endif
     }
     struct way ways[] = WAYS(digits_of_point);
     compare_layers("coding a point", ways);

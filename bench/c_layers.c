@@ -55,7 +55,7 @@ ek_point NAME(PREFIX, _digits_of_point)(ek_settings settings, const int32_t *e, 
     struct inverse w = inverse(settings.q);
     memcpy(p.e, e, sizeof p.e);
     for (int k = 0; k < settings.m; k++) {
-        struct near near = nearest(p.e, settings.q, w);
+        struct near near = nearest_in_loop(p.e, settings.q, w);
         layer_digits(settings.q, near.r, out + 8 * k);
         memcpy(p.e, near.e, sizeof p.e);
     }

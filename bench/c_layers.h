@@ -15,13 +15,6 @@ static inline int allowed(ek_settings settings) {
 /* A function that the compiler leaves as it stands. */
 #define APART static __attribute__((noinline, unused))
 
-/* clang makes branches of the choices in a loop, which no processor foresees here; out of loops it makes none. */
-#ifdef __clang__
-#define NOT_IN_LOOPS APART
-#else
-#define NOT_IN_LOOPS static inline
-#endif
-
 /* The inverse of 4s: n / 4s, rounded down, is n times it, shifted, for odd n below 2^28. */
 struct inverse {
     int64_t times;
@@ -55,7 +48,7 @@ struct near {
  * half, and a is the rest; the odd half is one step further to the side of a. A half whose sum is odd is mended, by two steps, where its
  * rest is greatest, of equals at the first that goes down, else at the last that goes up. That is the greatest key in the even half and
  * the least in the odd one. */
-NOT_IN_LOOPS struct near nearest(const int32_t *v, int32_t s, struct inverse w) {
+static inline struct near nearest(const int32_t *v, int32_t s, struct inverse w) {
     struct near n;
     int32_t f[8], a[8], key[8], greatest = 0, least = 1 << 20, sum = 0, ups = 0, sizes = 0;
     for (int i = 0; i < 8; i++) {
@@ -78,6 +71,16 @@ NOT_IN_LOOPS struct near nearest(const int32_t *v, int32_t s, struct inverse w) 
         n.r[i] = a[i] - s * up;
     }
     return n;
+}
+
+/* The same for loops. In a loop clang makes branches of the choices, which no processor foresees here. */
+#ifdef __clang__
+APART
+#else
+static inline
+#endif
+struct near nearest_in_loop(const int32_t *v, int32_t s, struct inverse w) {
+    return nearest(v, s, w);
 }
 
 /* ---- digits */

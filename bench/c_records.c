@@ -30,11 +30,11 @@ static inline int fits(const struct code *c, size_t t, const int32_t *x, int32_t
         far |= v[i] < -most || v[i] > most;
     }
     if (far) return 0;
-    struct near n = nearest(v, s, c->of_step[t]);
+    struct near n = nearest_in_loop(v, s, c->of_step[t]);
     memcpy(e, n.e, sizeof n.e);
     for (int k = 0; k < m; k++) {
         memcpy(v, n.e, sizeof v);
-        n = nearest(v, q, c->of_q);
+        n = nearest_in_loop(v, q, c->of_q);
         memcpy(rests[k], n.r, sizeof n.r);
     }
     for (int i = 0; i < 8; i++) left |= n.e[i];
