@@ -32,8 +32,8 @@ fn lead(rests: i64, x: Mend, y: Mend, way: i64, s: i64) -> i64
     requires { ⌜ Divisor s × (natAbs rests ≤ 2 ^ 32) × Small x × Small y × (natAbs way ≤ 1) ⌝ }
     ensures { λ r. ⌜ r ≡ lead s rests x y way ⌝ }
 {
-    let z = rests - 4 * s + 2 * (x.cost - y.cost);
-    coordinate::either(2 * first(x) < way + 2 * first(y), 1, 0) - 2 * z
+    let z = rests - 4 * s + (x.cost - y.cost);
+    coordinate::either(first(x) < way + first(y), 1, 0) - 2 * z
 }
 
 // 0 of a number above 0, else 1: by its sign and with no jump, since which half is closer cannot be foreseen.
@@ -98,6 +98,6 @@ pub fn nearest_point(d: &[i64; 8], s: i64) -> [i64; 8]
     let c = chosen(half::scanned(&f, &a), coordinate::sign(a[0]), s);
     let mut e = spread(c.parity, &f, &a);
     let j = c.place;
-    e[j] = e[j] + 2 * c.step;
+    e[j] = e[j] + c.step;
     e
 }
