@@ -54,7 +54,7 @@ oddMend s c = mended s (128 * natAbs s + 15 - c .least) (eqb (par (c .sum +ℤ p
 
 -- the choice by them
 abbrev pub choose : Bool → Mend → Mend → Choice
-choose even x y = record { parity = cond even (pos 0) (pos 1); place = cond even (x .place) (y .place); step = cond even (x .step) (y .step) }
+choose even x y = record { parity = cond even (pos 0) (pos 1); mend = cond even x y }
 
 unfoldable pub chosen : ℤ → Scan → ℤ → Choice
 chosen s c w = choose (ltZ (pos 0) (lead s (pos (c .keys / 128)) (evenMend s c) (oddMend s c) w)) (evenMend s c) (oddMend s c)

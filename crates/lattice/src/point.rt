@@ -16,8 +16,7 @@ use crate::half::Scan;
 // The half that is chosen, by its parity, and its mend.
 struct Choice {
     parity: i64,
-    place: usize,
-    step: i64,
+    mend: Mend,
 }
 
 // The step at the first entry.
@@ -58,17 +57,9 @@ fn chosen(c: Scan, way: i64, s: i64) -> Choice
     let v = lead((c.keys / 128) as i64, x, y, way, s);
     let parity = behind(v);
     if v > 0 {
-        Choice {
-            parity,
-            place: x.place,
-            step: x.step,
-        }
+        Choice { parity, mend: x }
     } else {
-        Choice {
-            parity,
-            place: y.place,
-            step: y.step,
-        }
+        Choice { parity, mend: y }
     }
 }
 
@@ -97,7 +88,8 @@ pub fn nearest_point(d: &[i64; 8], s: i64) -> [i64; 8]
     half::rounds(d, s, w, &mut f, &mut a);
     let c = chosen(half::scanned(&f, &a), coordinate::sign(a[0]), s);
     let mut e = spread(c.parity, &f, &a);
-    let j = c.place;
-    e[j] = e[j] + c.step;
+    let m = c.mend;
+    let j = m.place;
+    e[j] = e[j] + m.step;
     e
 }

@@ -310,9 +310,9 @@ module _ (s : ℤ) (s> : pos 0 <ℤ s) (d : List ℤ) (long : length d ≡ 8) wh
 
   -- the half of the choice, mended
   abbrev made : Choice → List ℤ
-  made h = let e : List ℤ = spreadBy (h .parity) f a in set e (h .place) («at» e (h .place) +ℤ h .step)
+  made h = let e : List ℤ = spreadBy (h .parity) f a in set e (h .mend .place) («at» e (h .mend .place) +ℤ h .mend .step)
 
-  place-small : (b : Bool) → choose b x y .place < 8
+  place-small : (b : Bool) → choose b x y .mend .place < 8
   unfolding mended
   place-small true = top-place (scan-top f a) .within
   place-small false = top-place (odd-top s s> d long) .within
@@ -326,10 +326,10 @@ module _ (s : ℤ) (s> : pos 0 <ℤ s) (d : List ℤ) (long : length d ≡ 8) wh
       ∙ spread-set 1 g (y .place) (n .0) (omega (arith, place-small false, length-map L (round S), long-L)) ∙ ap (spread 1) (n .2)
 
   -- how large its numbers are
-  pub chosen-small : Divisor s → Ranged s c → let h = chosen s c (sign («at» a 0)) in (natAbs (h .parity) ≤ 1) × (h .place < 8) × (natAbs (h .step) ≤ 2)
+  pub chosen-small : Divisor s → Ranged s c → let h = chosen s c (sign («at» a 0)) in (natAbs (h .parity) ≤ 1) × (h .mend .place < 8) × (natAbs (h .mend .step) ≤ 2)
   chosen-small h k = rw chosen-is (go t)
     where
-      go : (b : Bool) → (natAbs (choose b x y .parity) ≤ 1) × (choose b x y .place < 8) × (natAbs (choose b x y .step) ≤ 2)
+      go : (b : Bool) → (natAbs (choose b x y .parity) ≤ 1) × (choose b x y .mend .place < 8) × (natAbs (choose b x y .mend .step) ≤ 2)
       go true = (omega arith, place-small true, mended-small s h (c .most) (k .most) (eqb (par (sumV f)) 1) .step)
       go false = (omega arith, place-small false, mended-small s h (128 * natAbs s + 15 - c .least) (omega (arith, h .most)) (eqb (par (sumV g)) 1) .step)
 
