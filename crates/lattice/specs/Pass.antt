@@ -22,7 +22,7 @@ unfoldable pub scanned : ℕ → List ℤ → List ℤ → Scan
 scanned zero f r = record { most = key 0 («at» r 0); least = key 0 («at» r 0); keys = 0; sum = pos 0 }
 scanned (suc n) f r = seen (scanned n f r) («at» f n) («at» r n) n
 
--- what the code takes of it
+-- small enough for the code
 pub record Ranged (s : ℤ) (c : Scan) : Type 0 where
   pub most : c .most ≤ 2 ^ 32
   pub least : c .least ≤ 128 * natAbs s + 15
@@ -33,6 +33,7 @@ pub record Ranged (s : ℤ) (c : Scan) : Type 0 where
 unfoldable pub mended : ℤ → ℕ → Bool → Mend
 mended s k odd = record { place = spot k; step = cond odd (cond (ltb (k % 16) 8) (pos 2) (negsuc 1)) (pos 0); cost = cond odd (pos 2 *ℤ (s -ℤ pos (k / 128))) (pos 0) }
 
+-- a mend small enough for the code
 pub record Small (m : Mend) : Type 0 where
   pub step : natAbs (m .step) ≤ 2
   pub cost : natAbs (m .cost) ≤ 2 ^ 40

@@ -89,6 +89,7 @@ pub(crate) fn mended(k: usize, odd: bool, s: i64) -> Mend
     }
 }
 
+// The sum of eight numbers.
 pub(crate) fn sum(f: &[i64; 8]) -> i64
     requires { ⌜ Sized 8 (2 ^ 32) (now f) ⌝ }
     ensures { λ r. ⌜ r ≡ sumV (now (f .entry)) ⌝ }
@@ -102,6 +103,7 @@ pub(crate) fn sum(f: &[i64; 8]) -> i64
     t
 }
 
+// Whether a number is odd.
 pub(crate) fn odd(t: i64) -> bool
     ensures { λ r. ⌜ r ≡ eqb (par t) 1 ⌝ }
 {

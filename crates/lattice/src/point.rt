@@ -26,7 +26,7 @@ fn first(m: Mend) -> i64
     if m.place == 0 { m.step } else { 0 }
 }
 
-// Above 0 where the even half, mended by x, comes before the odd one, mended by y: by the costs, whose difference over 2s is z, and on equality by the first entries.
+// Above 0 where the even half, mended by x, comes before the odd one, mended by y: by the costs, whose difference is 2s times z, and on equality by the first entries.
 fn lead(rests: i64, x: Mend, y: Mend, way: i64, s: i64) -> i64
     requires { ⌜ Divisor s × (natAbs rests ≤ 2 ^ 32) × Small x × Small y × (natAbs way ≤ 1) ⌝ }
     ensures { λ r. ⌜ r ≡ lead s rests x y way ⌝ }
@@ -43,7 +43,7 @@ fn behind(v: i64) -> i64
     0 - ((v - 1) >> 63)
 }
 
-// The choice, from what the pass has seen and the way of the first entry.
+// The choice, from what the pass has seen and the way of the first entry. The odd half has the keys 128s + 15 less those of the even one; the keys' sum tells its parity, and over 128 it is the sum of what is left, up to sign.
 fn chosen(c: Scan, way: i64, s: i64) -> Choice
     requires { ⌜ Divisor s × Ranged s c × (natAbs way ≤ 1) ⌝ }
     ensures { λ r. ⌜ r ≡ chosen s c way ⌝ }
