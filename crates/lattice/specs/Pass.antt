@@ -22,19 +22,20 @@ unfoldable pub scanned : ℕ → List ℤ → List ℤ → Scan
 scanned zero f r = record { most = key 0 («at» r 0); least = key 0 («at» r 0); keys = 0; sum = pos 0 }
 scanned (suc n) f r = seen (scanned n f r) («at» f n) («at» r n) n
 
--- what the code takes of it
+-- small enough for the code
 pub record Ranged (s : ℤ) (c : Scan) : Type 0 where
   pub most : c .most ≤ 2 ^ 32
   pub least : c .least ≤ 128 * natAbs s + 15
   pub keys : c .keys ≤ 2 ^ 32
   pub sum : natAbs (c .sum) ≤ 2 ^ 40
 
--- how a half is mended whose greatest key is k: where its sum is odd, a step at the key's entry; the cost in units of 4s
+-- how a half is mended whose greatest key is k: where its sum is odd, a step at the key's entry, doubled; the cost in units of 2s
 unfoldable pub mended : ℤ → ℕ → Bool → Mend
-mended s k odd = record { place = spot k; step = cond odd (cond (ltb (k % 16) 8) (pos 1) (negsuc 0)) (pos 0); cost = cond odd (s -ℤ pos (k / 128)) (pos 0) }
+mended s k odd = record { place = spot k; step = cond odd (cond (ltb (k % 16) 8) (pos 2) (negsuc 1)) (pos 0); cost = cond odd (pos 2 *ℤ (s -ℤ pos (k / 128))) (pos 0) }
 
+-- a mend small enough for the code
 pub record Small (m : Mend) : Type 0 where
-  pub step : natAbs (m .step) ≤ 1
+  pub step : natAbs (m .step) ≤ 2
   pub cost : natAbs (m .cost) ≤ 2 ^ 40
 
 -- the step at the first entry
@@ -43,7 +44,7 @@ first m = cond (eqb (m .place) 0) (m .step) (pos 0)
 
 -- above 0 where the even half, mended by x, comes before the odd one, mended by y: R is the sum of what is left, up to sign, and w the way of the first entry
 unfoldable pub lead : ℤ → ℤ → Mend → Mend → ℤ → ℤ
-lead s R x y w = cond (ltZ (pos 2 *ℤ first x) (w +ℤ pos 2 *ℤ first y)) (pos 1) (pos 0) -ℤ pos 2 *ℤ (R -ℤ pos 4 *ℤ s +ℤ pos 2 *ℤ (x .cost -ℤ y .cost))
+lead s R x y w = cond (ltZ (first x) (w +ℤ first y)) (pos 1) (pos 0) -ℤ pos 2 *ℤ (R -ℤ pos 4 *ℤ s +ℤ (x .cost -ℤ y .cost))
 
 -- the mends of the even half and of the odd one: where the even half has the key k, the odd one has 128 s + 15 - k
 abbrev pub evenMend : ℤ → Scan → Mend
@@ -54,7 +55,7 @@ oddMend s c = mended s (128 * natAbs s + 15 - c .least) (eqb (par (c .sum +ℤ p
 
 -- the choice by them
 abbrev pub choose : Bool → Mend → Mend → Choice
-choose even x y = record { parity = cond even (pos 0) (pos 1); place = cond even (x .place) (y .place); step = cond even (x .step) (y .step) }
+choose even x y = record { parity = cond even (pos 0) (pos 1); mend = cond even x y }
 
 unfoldable pub chosen : ℤ → Scan → ℤ → Choice
 chosen s c w = choose (ltZ (pos 0) (lead s (pos (c .keys / 128)) (evenMend s c) (oddMend s c) w)) (evenMend s c) (oddMend s c)

@@ -19,7 +19,7 @@ pub(crate) struct Scan {
     pub sum: i64,
 }
 
-// How a half is mended: a step at a place, 0 where nothing is to be mended, and what it adds to the cost, in units of 4s.
+// How a half is mended: a step at a place, doubled as the point is, 0 where nothing is to be mended; and what it adds to the cost, in units of 2s.
 pub(crate) struct Mend {
     pub place: usize,
     pub step: i64,
@@ -81,14 +81,15 @@ pub(crate) fn mended(k: usize, odd: bool, s: i64) -> Mend
     requires { ⌜ Divisor s × (k ≤ 2 ^ 32) ⌝ }
     ensures { λ r. ⌜ r ≡ mended s k odd ⌝ }
 {
-    let way = coordinate::either(k % 16 < 8, 1, -1);
+    let way = coordinate::either(k % 16 < 8, 2, -2);
     Mend {
         place: coordinate::spot(k),
         step: coordinate::either(odd, way, 0),
-        cost: coordinate::either(odd, s - (k / 128) as i64, 0),
+        cost: coordinate::either(odd, 2 * (s - (k / 128) as i64), 0),
     }
 }
 
+// The sum of eight numbers.
 pub(crate) fn sum(f: &[i64; 8]) -> i64
     requires { ⌜ Sized 8 (2 ^ 32) (now f) ⌝ }
     ensures { λ r. ⌜ r ≡ sumV (now (f .entry)) ⌝ }
@@ -102,6 +103,7 @@ pub(crate) fn sum(f: &[i64; 8]) -> i64
     t
 }
 
+// Whether a number is odd.
 pub(crate) fn odd(t: i64) -> bool
     ensures { λ r. ⌜ r ≡ eqb (par t) 1 ⌝ }
 {

@@ -16,8 +16,7 @@ use crate::half::Scan;
 // The half that is chosen, by its parity, and its mend.
 struct Choice {
     parity: i64,
-    place: usize,
-    step: i64,
+    mend: Mend,
 }
 
 // The step at the first entry.
@@ -27,13 +26,13 @@ fn first(m: Mend) -> i64
     if m.place == 0 { m.step } else { 0 }
 }
 
-// Above 0 where the even half, mended by x, comes before the odd one, mended by y: by the costs, whose difference over 2s is z, and on equality by the first entries.
+// Above 0 where the even half, mended by x, comes before the odd one, mended by y: by the costs, whose difference is 2s times z, and on equality by the first entries.
 fn lead(rests: i64, x: Mend, y: Mend, way: i64, s: i64) -> i64
     requires { ⌜ Divisor s × (natAbs rests ≤ 2 ^ 32) × Small x × Small y × (natAbs way ≤ 1) ⌝ }
     ensures { λ r. ⌜ r ≡ lead s rests x y way ⌝ }
 {
-    let z = rests - 4 * s + 2 * (x.cost - y.cost);
-    coordinate::either(2 * first(x) < way + 2 * first(y), 1, 0) - 2 * z
+    let z = rests - 4 * s + (x.cost - y.cost);
+    coordinate::either(first(x) < way + first(y), 1, 0) - 2 * z
 }
 
 // 0 of a number above 0, else 1: by its sign and with no jump, since which half is closer cannot be foreseen.
@@ -44,7 +43,7 @@ fn behind(v: i64) -> i64
     0 - ((v - 1) >> 63)
 }
 
-// The choice, from what the pass has seen and the way of the first entry.
+// The choice, from what the pass has seen and the way of the first entry. The odd half has the keys 128s + 15 less those of the even one; the keys' sum tells its parity, and over 128 it is the sum of what is left, up to sign.
 fn chosen(c: Scan, way: i64, s: i64) -> Choice
     requires { ⌜ Divisor s × Ranged s c × (natAbs way ≤ 1) ⌝ }
     ensures { λ r. ⌜ r ≡ chosen s c way ⌝ }
@@ -58,17 +57,9 @@ fn chosen(c: Scan, way: i64, s: i64) -> Choice
     let v = lead((c.keys / 128) as i64, x, y, way, s);
     let parity = behind(v);
     if v > 0 {
-        Choice {
-            parity,
-            place: x.place,
-            step: x.step,
-        }
+        Choice { parity, mend: x }
     } else {
-        Choice {
-            parity,
-            place: y.place,
-            step: y.step,
-        }
+        Choice { parity, mend: y }
     }
 }
 
@@ -97,7 +88,8 @@ pub fn nearest_point(d: &[i64; 8], s: i64) -> [i64; 8]
     half::rounds(d, s, w, &mut f, &mut a);
     let c = chosen(half::scanned(&f, &a), coordinate::sign(a[0]), s);
     let mut e = spread(c.parity, &f, &a);
-    let j = c.place;
-    e[j] = e[j] + 2 * c.step;
+    let m = c.mend;
+    let j = m.place;
+    e[j] = e[j] + m.step;
     e
 }

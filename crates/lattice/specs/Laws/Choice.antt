@@ -11,7 +11,7 @@ use lib.IntN.{ℤ, pos, negsuc, natAbs, _+ℤ_, _-ℤ_, _*ℤ_}
 use lib.ListN.{length, set, length-map}
 use lib.Seq.{ext-getD, take-all}
 use lib.Signed.{_≤ℤ_, _<ℤ_, leZ, ltZ, shrZ, ≤ℤ-refl}
-use Rattle.integers.specs.Laws.Difference.{byD, ints, byD₂, byD₃}
+use Rattle.integers.specs.Laws.Difference.{byD, ints, byD₂, byD₃, byD₄}
 use Rattle.integers.specs.Laws.Loops.{range-at}
 use Rattle.integers.specs.Laws.Signed.{<ℤ-weak, slack<, slack>, trichotomy}
 use Rattle.integers.specs.Laws.Sizes.{abs-add, abs-sub, abs-mul, abs-mul-le, leZ-true, leZ-false, ltZ-true, ltZ-false, leZ-not, ltZ-not}
@@ -104,7 +104,7 @@ module _ (s : ℤ) (s> : pos 0 <ℤ s) (d : List ℤ) (long : length d ≡ 8) wh
 
 -- the difference of the costs, from what the mends add to those of the roundings
 costs-apart : (s A B R X Y : ℤ) → B +ℤ pos 2 *ℤ s *ℤ R ≡ A +ℤ pos 8 *ℤ square s
-    → (A +ℤ pos 2 *ℤ (pos 2 *ℤ s) *ℤ X) -ℤ (B +ℤ pos 2 *ℤ (pos 2 *ℤ s) *ℤ Y) ≡ pos 2 *ℤ s *ℤ (R -ℤ pos 4 *ℤ s +ℤ pos 2 *ℤ (X -ℤ Y))
+    → (A +ℤ pos 2 *ℤ s *ℤ X) -ℤ (B +ℤ pos 2 *ℤ s *ℤ Y) ≡ pos 2 *ℤ s *ℤ (R -ℤ pos 4 *ℤ s +ℤ (X -ℤ Y))
 costs-apart = byD₃ _ λ _ _ _ _ _ _. byD₃ _ λ _ _ _ _ _ _. simp ints (omega arith)
 
 -- it has the sign of z
@@ -173,34 +173,38 @@ pub bit-small : (b : Bool) → natAbs (cond b (pos 1) (pos 0)) ≤ 1
 bit-small true = omega arith
 bit-small false = omega arith
 
--- the first entries f and g, mended by p and q, where w leads from 2f to 2g + 1
-first-test : (f g w p q : ℤ) → pos 2 *ℤ f +ℤ pos 1 *ℤ w ≡ pos 2 *ℤ g +ℤ pos 1 → leZ (f +ℤ p) (g +ℤ q) ≡ ltZ (pos 2 *ℤ p) (w +ℤ pos 2 *ℤ q)
-first-test f g w p q e = same-test _ _ (λ u v. no-1 f g w p q e (leZ-true _ _ u) (ltZ-false _ _ v)) (λ u v. no-2 f g w p q e (leZ-false _ _ u) (ltZ-true _ _ v))
+-- the first entries: 2x and 2y are 2f and 2g, mended by p and q, and w leads from 2f to 2g + 1
+first-test : (f g w p q x y : ℤ) → pos 2 *ℤ f +ℤ pos 1 *ℤ w ≡ pos 2 *ℤ g +ℤ pos 1 → pos 2 *ℤ x ≡ pos 2 *ℤ f +ℤ p → pos 2 *ℤ y ≡ pos 2 *ℤ g +ℤ q → leZ x y ≡ ltZ p (w +ℤ q)
+first-test f g w p q x y e h k = same-test _ _ (λ u v. no-1 f g w p q x y e h k (leZ-true _ _ u) (ltZ-false _ _ v)) (λ u v. no-2 f g w p q x y e h k (leZ-false _ _ u) (ltZ-true _ _ v))
   where
-    no-1 : (f g w p q : ℤ) → pos 2 *ℤ f +ℤ pos 1 *ℤ w ≡ pos 2 *ℤ g +ℤ pos 1 → (f +ℤ p) ≤ℤ (g +ℤ q) → (w +ℤ pos 2 *ℤ q) ≤ℤ (pos 2 *ℤ p) → ⊥
-    no-1 = byD₃ _ λ _ _ _ _ _ _. byD₂ _ λ _ _ _ _. simp ints (omega arith)
+    no-1 : (f g w p q x y : ℤ) → pos 2 *ℤ f +ℤ pos 1 *ℤ w ≡ pos 2 *ℤ g +ℤ pos 1 → pos 2 *ℤ x ≡ pos 2 *ℤ f +ℤ p → pos 2 *ℤ y ≡ pos 2 *ℤ g +ℤ q → x ≤ℤ y → (w +ℤ q) ≤ℤ p → ⊥
+    no-1 = byD₃ _ λ _ _ _ _ _ _. byD₄ _ λ _ _ _ _ _ _ _ _. simp ints (omega arith)
 
-    no-2 : (f g w p q : ℤ) → pos 2 *ℤ f +ℤ pos 1 *ℤ w ≡ pos 2 *ℤ g +ℤ pos 1 → (g +ℤ q) <ℤ (f +ℤ p) → (pos 2 *ℤ p) <ℤ (w +ℤ pos 2 *ℤ q) → ⊥
-    no-2 = byD₃ _ λ _ _ _ _ _ _. byD₂ _ λ _ _ _ _. simp ints (omega arith)
+    no-2 : (f g w p q x y : ℤ) → pos 2 *ℤ f +ℤ pos 1 *ℤ w ≡ pos 2 *ℤ g +ℤ pos 1 → pos 2 *ℤ x ≡ pos 2 *ℤ f +ℤ p → pos 2 *ℤ y ≡ pos 2 *ℤ g +ℤ q → y <ℤ x → p <ℤ (w +ℤ q) → ⊥
+    no-2 = byD₃ _ λ _ _ _ _ _ _. byD₄ _ λ _ _ _ _ _ _ _ _. simp ints (omega arith)
 
 -- ---- how large the numbers of the comparison are
 
-way-small : (b : Bool) → natAbs (cond b (pos 1) (negsuc 0)) ≤ 1
-way-small true = omega arith
-way-small false = omega arith
-
 pub sign-small : (x : ℤ) → natAbs (sign x) ≤ 1
-sign-small x = way-small (ltZ (pos 0) x)
+sign-small x = go (ltZ (pos 0) x)
+  where
+    go : (b : Bool) → natAbs (cond b (pos 1) (negsuc 0)) ≤ 1
+    go true = omega arith
+    go false = omega arith
 
 pub mended-small : (s : ℤ) → Divisor s → (k : ℕ) → k ≤ 2 ^ 32 → (b : Bool) → Small (mended s k b)
 unfolding mended
-mended-small s h k l true = record { step = way-small (ltb (k % 16) 8); cost = omega (arith, abs-sub s (pos (k / 128)), h .most, div-le-self k 128) }
+mended-small s h k l true = record { step = go (ltb (k % 16) 8); cost = omega (arith, abs-mul (pos 2) (s -ℤ pos (k / 128)), abs-sub s (pos (k / 128)), h .most, div-le-self k 128) }
+  where
+    go : (b : Bool) → natAbs (cond b (pos 2) (negsuc 1)) ≤ 2
+    go true = omega arith
+    go false = omega arith
 mended-small s h k l false = record { step = omega arith; cost = omega arith }
 
-pub first-small : (m : Mend) → Small m → natAbs (first m) ≤ 1
+pub first-small : (m : Mend) → Small m → natAbs (first m) ≤ 2
 first-small m h = go (eqb (m .place) 0)
   where
-    go : (b : Bool) → natAbs (cond b (m .step) (pos 0)) ≤ 1
+    go : (b : Bool) → natAbs (cond b (m .step) (pos 0)) ≤ 2
     go true = h .step
     go false = omega arith
 
@@ -211,12 +215,12 @@ module _ (s R : ℤ) (x y : Mend) (h : Divisor s) (r : natAbs R ≤ 2 ^ 32) (k :
   pub costs-small : natAbs (x .cost -ℤ y .cost) ≤ 2 ^ 41
   costs-small = omega (arith, abs-sub (x .cost) (y .cost), k .cost, l .cost)
 
-  pub apart-small : natAbs (R -ℤ pos 4 *ℤ s +ℤ pos 2 *ℤ (x .cost -ℤ y .cost)) ≤ 2 ^ 43
-  apart-small = omega (arith, abs-add (R -ℤ pos 4 *ℤ s) (pos 2 *ℤ (x .cost -ℤ y .cost)), abs-sub R (pos 4 *ℤ s), four-small, abs-mul (pos 2) (x .cost -ℤ y .cost), costs-small)
+  pub apart-small : natAbs (R -ℤ pos 4 *ℤ s +ℤ (x .cost -ℤ y .cost)) ≤ 2 ^ 43
+  apart-small = omega (arith, abs-add (R -ℤ pos 4 *ℤ s) (x .cost -ℤ y .cost), abs-sub R (pos 4 *ℤ s), four-small, costs-small)
 
   pub lead-small : (w : ℤ) → natAbs (lead s R x y w) ≤ 2 ^ 62
   unfolding lead
-  lead-small w = let z : ℤ = R -ℤ pos 4 *ℤ s +ℤ pos 2 *ℤ (x .cost -ℤ y .cost) in let b : Bool = ltZ (pos 2 *ℤ first x) (w +ℤ pos 2 *ℤ first y) in
+  lead-small w = let z : ℤ = R -ℤ pos 4 *ℤ s +ℤ (x .cost -ℤ y .cost) in let b : Bool = ltZ (first x) (w +ℤ first y) in
       omega (arith, abs-sub (cond b (pos 1) (pos 0)) (pos 2 *ℤ z), abs-mul (pos 2) z, apart-small, bit-small b)
 
 -- ---- the doubled entries
@@ -280,16 +284,16 @@ module _ (s : ℤ) (s> : pos 0 <ℤ s) (d : List ℤ) (long : length d ≡ 8) wh
   y-is = ap (λ (n : ℕ). mended s (128 * natAbs s + 15 - c .least) (eqb n 1)) (odd-parity s s> d long)
 
   abbrev z : ℤ
-  z = pos (c .keys / 128) -ℤ pos 4 *ℤ s +ℤ pos 2 *ℤ (x .cost -ℤ y .cost)
+  z = pos (c .keys / 128) -ℤ pos 4 *ℤ s +ℤ (x .cost -ℤ y .cost)
 
   costs : cost S d (nearestD S d) -ℤ cost S L (nearestD S L) ≡ S *ℤ z
   costs = ap₂ _-ℤ_ (mend-cost s s> d long (c .most) (scan-top f a)) (mend-cost s s> L long-L (128 * natAbs s + 15 - c .least) (odd-top s s> d long))
       ∙ costs-apart s (cost S d f) (cost S L g) (pos (c .keys / 128)) (x .cost) (y .cost)
       (ap (λ (n : ℕ). cost S L g +ℤ S *ℤ pos n) (scan-rests f a (length-map d (left S) ∙ long)) ∙ cost-lower s s> d ∙ ap (λ (n : ℕ). cost S d f +ℤ pos n *ℤ square s) long)
 
-  firsts : leZ («at» (nearestD S d) 0) («at» (nearestD S L) 0) ≡ ltZ (pos 2 *ℤ first x) (sign («at» a 0) +ℤ pos 2 *ℤ first y)
-  firsts = ap₂ leZ (mend-first s s> d long (c .most) (scan-top f a)) (mend-first s s> L long-L (128 * natAbs s + 15 - c .least) (odd-top s s> d long))
-      ∙ first-test («at» f 0) («at» g 0) (sign («at» a 0)) (first x) (first y) (twin-at s s> d long 0 (omega arith) .doubled)
+  firsts : leZ («at» (nearestD S d) 0) («at» (nearestD S L) 0) ≡ ltZ (first x) (sign («at» a 0) +ℤ first y)
+  firsts = first-test («at» f 0) («at» g 0) (sign («at» a 0)) (first x) (first y) («at» (nearestD S d) 0) («at» (nearestD S L) 0) (twin-at s s> d long 0 (omega arith) .doubled)
+      (mend-first s s> d long (c .most) (scan-top f a)) (mend-first s s> L long-L (128 * natAbs s + 15 - c .least) (odd-top s s> d long))
 
   abbrev t : Bool
   t = ltZ (pos 0) (lead s (pos (c .keys / 128)) x y (sign («at» a 0)))
@@ -306,24 +310,26 @@ module _ (s : ℤ) (s> : pos 0 <ℤ s) (d : List ℤ) (long : length d ≡ 8) wh
 
   -- the half of the choice, mended
   abbrev made : Choice → List ℤ
-  made h = let e : List ℤ = spreadBy (h .parity) f a in set e (h .place) («at» e (h .place) +ℤ pos 2 *ℤ h .step)
+  made h = let e : List ℤ = spreadBy (h .parity) f a in set e (h .mend .place) («at» e (h .mend .place) +ℤ h .mend .step)
 
-  place-small : (b : Bool) → choose b x y .place < 8
+  place-small : (b : Bool) → choose b x y .mend .place < 8
   unfolding mended
   place-small true = top-place (scan-top f a) .within
   place-small false = top-place (odd-top s s> d long) .within
 
   made-is : (b : Bool) → made (choose b x y) ≡ cond b (spread 0 (nearestD S d)) (spread 1 (nearestD S L))
-  made-is true = ap (λ (e : List ℤ). set e (x .place) («at» e (x .place) +ℤ pos 2 *ℤ x .step)) (spread-by (pos 0) 0 f a f (length-map d _ ∙ long) (λ i h. no-step («at» f i) (sign («at» a i))))
-      ∙ spread-set 0 f (x .place) (x .step) (omega (arith, place-small true, length-map d (round S))) ∙ ap (spread 0) (mend-nearest s s> d long (c .most) (scan-top f a))
-  made-is false = ap (λ (e : List ℤ). set e (y .place) («at» e (y .place) +ℤ pos 2 *ℤ y .step)) (spread-by (pos 1) 1 f a g (length-map L _ ∙ long-L) (λ i h. twin-at s s> d long i h .doubled))
-      ∙ spread-set 1 g (y .place) (y .step) (omega (arith, place-small false, length-map L (round S), long-L)) ∙ ap (spread 1) (mend-nearest s s> L long-L (128 * natAbs s + 15 - c .least) (odd-top s s> d long))
+  made-is true = let n = mend-nearest s s> d long (c .most) (scan-top f a) in
+      ap₂ (λ (e : List ℤ) (t : ℤ). set e (x .place) («at» e (x .place) +ℤ t)) (spread-by (pos 0) 0 f a f (length-map d _ ∙ long) (λ i h. no-step («at» f i) (sign («at» a i)))) (n .1)
+      ∙ spread-set 0 f (x .place) (n .0) (omega (arith, place-small true, length-map d (round S))) ∙ ap (spread 0) (n .2)
+  made-is false = let n = mend-nearest s s> L long-L (128 * natAbs s + 15 - c .least) (odd-top s s> d long) in
+      ap₂ (λ (e : List ℤ) (t : ℤ). set e (y .place) («at» e (y .place) +ℤ t)) (spread-by (pos 1) 1 f a g (length-map L _ ∙ long-L) (λ i h. twin-at s s> d long i h .doubled)) (n .1)
+      ∙ spread-set 1 g (y .place) (n .0) (omega (arith, place-small false, length-map L (round S), long-L)) ∙ ap (spread 1) (n .2)
 
   -- how large its numbers are
-  pub chosen-small : Divisor s → Ranged s c → let h = chosen s c (sign («at» a 0)) in (natAbs (h .parity) ≤ 1) × (h .place < 8) × (natAbs (h .step) ≤ 1)
+  pub chosen-small : Divisor s → Ranged s c → let h = chosen s c (sign («at» a 0)) in (natAbs (h .parity) ≤ 1) × (h .mend .place < 8) × (natAbs (h .mend .step) ≤ 2)
   chosen-small h k = rw chosen-is (go t)
     where
-      go : (b : Bool) → (natAbs (choose b x y .parity) ≤ 1) × (choose b x y .place < 8) × (natAbs (choose b x y .step) ≤ 1)
+      go : (b : Bool) → (natAbs (choose b x y .parity) ≤ 1) × (choose b x y .mend .place < 8) × (natAbs (choose b x y .mend .step) ≤ 2)
       go true = (omega arith, place-small true, mended-small s h (c .most) (k .most) (eqb (par (sumV f)) 1) .step)
       go false = (omega arith, place-small false, mended-small s h (128 * natAbs s + 15 - c .least) (omega (arith, h .most)) (eqb (par (sumV g)) 1) .step)
 

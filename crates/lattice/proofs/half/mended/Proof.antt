@@ -6,11 +6,11 @@ use Prim.Native.Nat.{ℕ, _/_, _%_, _≤_}
 use native.Mathlib.Nat.{div-le-self}
 use native.Mathlib.Omega.{arith}
 use lib.Dec.{ltb}
-use lib.IntN.{ℤ, pos, negsuc, _-ℤ_}
+use lib.IntN.{ℤ, pos, negsuc, _-ℤ_, _*ℤ_}
 use mir.Syntax.{w64}
 use mir.Val.{SFits}
 use mir.Facts.{toZ-ofZ}
-use Rattle.integers.specs.Laws.Sizes.{fits-abs, fits-sub}
+use Rattle.integers.specs.Laws.Sizes.{abs-sub, abs-mul, fits-abs, fits-sub}
 use Rattle.lattice.specs.Pass.{mended}
 use Rattle.lattice.proofs.half.mended.Statement.{statement}
 use Rattle.lattice.proofs.half.mended.Tie as tie
@@ -43,10 +43,13 @@ module _ (c : tie.After-either2) where
   fsk : SFits w64 (s -ℤ size)
   fsk = fits-sub s size (omega (arith, size≤, b .pre .0 .most))
 
-  way : c .before .before .either .result ≡ cond (ltb (b .args .k % 16) 8) (pos 1) (negsuc 0)
+  f2 : SFits w64 (pos 2 *ℤ (s -ℤ size))
+  f2 = fits-abs _ (omega (arith, abs-mul (pos 2) (s -ℤ size), abs-sub s size, size≤, b .pre .0 .most))
+
+  way : c .before .before .either .result ≡ cond (ltb (b .args .k % 16) 8) (pos 2) (negsuc 1)
   way = c .before .before .either .ensures
 
-  step : c .either2 .result ≡ cond (b .args .odd) (cond (ltb (b .args .k % 16) 8) (pos 1) (negsuc 0)) (pos 0)
+  step : c .either2 .result ≡ cond (b .args .odd) (cond (ltb (b .args .k % 16) 8) (pos 2) (negsuc 1)) (pos 0)
   step = let f : SFits w64 (c .before .before .either .result) = record { sfits = c .before .before .either .ok } in
       (simp (toZ-ofZ, f) at (c .either2 .ensures)) ∙ ap (λ (z : ℤ). cond (b .args .odd) z (pos 0)) way
 
@@ -56,12 +59,15 @@ cast-either c = fk c
 sub-either : tie.Need-sub-either
 sub-either c = simp (toZ-ofZ, b c .fits .s, fk c) (fsk c)
 
+mul-either : tie.Need-mul-either
+mul-either c = simp (toZ-ofZ, b c .fits .s, fk c, fsk c) (f2 c)
+
 either-requires-3 : tie.Need-either-requires-3
 either-requires-3 c κs = search needs
 
 returns : tie.Need-returns
 unfolding mended
-returns c = let m = c .before in let e : c .either3 .result ≡ cond (b m .args .odd) (s m -ℤ size m) (pos 0) = simp (toZ-ofZ, b m .fits .s, fk m, fsk m) at (c .either3 .ensures) in
+returns c = let m = c .before in let e : c .either3 .result ≡ cond (b m .args .odd) (pos 2 *ℤ (s m -ℤ size m)) (pos 0) = simp (toZ-ofZ, b m .fits .s, fk m, fsk m, f2 m) at (c .either3 .ensures) in
     let f : SFits w64 (m .either2 .result) = record { sfits = m .either2 .ok } in let g : SFits w64 (c .either3 .result) = record { sfits = c .either3 .ok } in
     simp (toZ-ofZ, f, g)
     (ap₂ (λ (x y : ℤ). record { place = m .before .spot .result; step = x; cost = y }) (step m) e
@@ -76,5 +82,6 @@ mended-spec =
     either-requires-2
     cast-either
     sub-either
+    mul-either
     either-requires-3
     returns)

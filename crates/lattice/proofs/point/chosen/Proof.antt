@@ -149,14 +149,12 @@ module _ (c : tie.After-behind) where
   chosen-is t e = ap (λ (t : Bool). choose t (x b₄) (y b₄)) (sym e ∙ ap (ltZ (pos 0)) (v-is l))
 
 returns : tie.Need-returns
-returns c = let n = c .before .before in let m = even (both (l n)) in let e : ltZ (pos 0) (l n .lead .result) ≡ true = simp (toZ-ofZ, fv (l n)) at (c .before .if1 .taken) in
-    let p : SFits w64 (n .behind .result) = record { sfits = n .behind .ok } in let t : SFits w64 (m .mended .result .step) = record { sfits = c .struct-told3 .given .1 .0 .1 } in
-    simp (toZ-ofZ, p, t) (ap₂ (λ (z : ℤ) (h : Mend). record { parity = z; place = h .place; step = h .step }) (parity n ∙ ap (λ (t : Bool). cond t (pos 0) (pos 1)) e) (x-is m) ∙ chosen-is n true e)
+returns c = let n = c .before in let e : ltZ (pos 0) (l n .lead .result) ≡ true = simp (toZ-ofZ, fv (l n)) at (c .if1 .taken) in let p : SFits w64 (n .behind .result) = record { sfits = n .behind .ok } in
+    simp (toZ-ofZ, p) (ap₂ (λ (z : ℤ) (h : Mend). record { parity = z; mend = h }) (parity n ∙ ap (λ (t : Bool). cond t (pos 0) (pos 1)) e) (x-is (even (both (l n)))) ∙ chosen-is n true e)
 
 returns-2 : tie.Need-returns-2
-returns-2 c = let n = c .before .before in let m = both (l n) in let e : ltZ (pos 0) (l n .lead .result) ≡ false = simp (toZ-ofZ, fv (l n)) at (c .before .if1 .left) in
-    let p : SFits w64 (n .behind .result) = record { sfits = n .behind .ok } in let t : SFits w64 (m .mended2 .result .step) = record { sfits = c .struct-told4 .given .1 .0 .1 } in
-    simp (toZ-ofZ, p, t) (ap₂ (λ (z : ℤ) (h : Mend). record { parity = z; place = h .place; step = h .step }) (parity n ∙ ap (λ (t : Bool). cond t (pos 0) (pos 1)) e) (y-is m) ∙ chosen-is n false e)
+returns-2 c = let n = c .before in let e : ltZ (pos 0) (l n .lead .result) ≡ false = simp (toZ-ofZ, fv (l n)) at (c .if1 .left) in let p : SFits w64 (n .behind .result) = record { sfits = n .behind .ok } in
+    simp (toZ-ofZ, p) (ap₂ (λ (z : ℤ) (h : Mend). record { parity = z; mend = h }) (parity n ∙ ap (λ (t : Bool). cond t (pos 0) (pos 1)) e) (y-is (both (l n))) ∙ chosen-is n false e)
 
 pub chosen-spec : {M : Type 1} → statement M
 chosen-spec =

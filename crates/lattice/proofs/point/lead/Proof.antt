@@ -1,6 +1,6 @@
 -- `lead` is what its definition says: every number on the way is small, so that nothing wraps.
 use borrow.Author.Needs.{needs}
-use mathlib.Core.Path.{_≡_, _∙_, ap, ap₂}
+use mathlib.Core.Path.{_≡_, sym, _∙_, ap, ap₂, subst}
 use mathlib.Core.Bool.{cond}
 use native.Mathlib.Omega.{arith}
 use lib.IntN.{ℤ, pos, _+ℤ_, _-ℤ_, _*ℤ_}
@@ -32,7 +32,7 @@ module _ (c : tie.Start) where
   way = c .args .way
 
   abbrev z : ℤ
-  z = R -ℤ pos 4 *ℤ s +ℤ pos 2 *ℤ (x .cost -ℤ y .cost)
+  z = R -ℤ pos 4 *ℤ s +ℤ (x .cost -ℤ y .cost)
 
   f4 : SFits w64 (pos 4 *ℤ s)
   f4 = fits-abs _ (omega (arith, four-small s R x y (c .pre .0) (c .pre .1) (c .pre .2) (c .pre .3)))
@@ -49,23 +49,14 @@ module _ (c : tie.Start) where
   fd : SFits w64 (x .cost -ℤ y .cost)
   fd = fits-abs _ (omega (arith, costs-small s R x y (c .pre .0) (c .pre .1) (c .pre .2) (c .pre .3)))
 
-  f2d : SFits w64 (pos 2 *ℤ (x .cost -ℤ y .cost))
-  f2d = fits-abs _ (omega (arith, abs-mul (pos 2) (x .cost -ℤ y .cost), costs-small s R x y (c .pre .0) (c .pre .1) (c .pre .2) (c .pre .3)))
-
   fz : SFits w64 z
   fz = fits-abs z (omega (arith, apart-small s R x y (c .pre .0) (c .pre .1) (c .pre .2) (c .pre .3)))
 
   f2z : SFits w64 (pos 2 *ℤ z)
   f2z = fits-abs _ (omega (arith, abs-mul (pos 2) z, apart-small s R x y (c .pre .0) (c .pre .1) (c .pre .2) (c .pre .3)))
 
-  f2x : SFits w64 (pos 2 *ℤ first x)
-  f2x = fits-abs _ (omega (arith, abs-mul (pos 2) (first x), first-small x (c .pre .2)))
-
-  f2y : SFits w64 (pos 2 *ℤ first y)
-  f2y = fits-abs _ (omega (arith, abs-mul (pos 2) (first y), first-small y (c .pre .3)))
-
-  fw : SFits w64 (way +ℤ pos 2 *ℤ first y)
-  fw = fits-add way (pos 2 *ℤ first y) (omega (arith, abs-mul (pos 2) (first y), first-small y (c .pre .3), c .pre .4))
+  fw : SFits w64 (way +ℤ first y)
+  fw = fits-add way (first y) (omega (arith, first-small y (c .pre .3), c .pre .4))
 
   fl : SFits w64 (lead s R x y way)
   fl = fits-abs _ (omega (arith, lead-small s R x y (c .pre .0) (c .pre .1) (c .pre .2) (c .pre .3) way))
@@ -79,11 +70,8 @@ sub-z c = simp (toZ-ofZ, c .fits .s, c .fits .rests, f4 c) (fR c)
 sub-z-2 : tie.Need-sub-z-2
 sub-z-2 c = let b = c .before .before .before .before in simp (toZ-ofZ, fx b, fy b) (fd b)
 
-mul-z-2 : tie.Need-mul-z-2
-mul-z-2 c = let b = c .before .before .before .before in simp (toZ-ofZ, fx b, fy b, fd b) (f2d b)
-
 add-z : tie.Need-add-z
-add-z c = let b = c .before .before .before .before in simp (toZ-ofZ, b .fits .s, b .fits .rests, f4 b, fR b, fx b, fy b, fd b, f2d b) (fz b)
+add-z c = let b = c .before .before .before .before in simp (toZ-ofZ, b .fits .s, b .fits .rests, f4 b, fR b, fx b, fy b, fd b) (fz b)
 
 first-requires : tie.Need-first-requires
 first-requires c κs = search needs
@@ -91,46 +79,30 @@ first-requires c κs = search needs
 first-requires-2 : tie.Need-first-requires-2
 first-requires-2 c κs = search needs
 
--- the first steps, and the test of the two
-module _ (c : tie.After-first) where
-  abbrev b : tie.Start
-  b = c .before .before .before .before .before
-
-  x-first : c .first .result ≡ first (x b)
-  x-first = c .first .ensures
-
-  ffx : SFits w64 (c .first .result)
-  ffx = record { sfits = c .first .ok }
-
-  f2fx : SFits w64 (pos 2 *ℤ c .first .result)
-  f2fx = rw x-first (f2x b)
-
+-- the test of the first steps
 module _ (c : tie.After-first2) where
-  abbrev d : tie.Start
-  d = b (c .before)
+  abbrev b : tie.Start
+  b = c .before .before .before .before .before .before
 
-  y-first : c .first2 .result ≡ first (y d)
+  y-first : c .first2 .result ≡ first (y b)
   y-first = c .first2 .ensures
+
+  ffx : SFits w64 (c .before .first .result)
+  ffx = record { sfits = c .before .first .ok }
 
   ffy : SFits w64 (c .first2 .result)
   ffy = record { sfits = c .first2 .ok }
 
-  f2fy : SFits w64 (pos 2 *ℤ c .first2 .result)
-  f2fy = rw y-first (f2y d)
-
-  fwy : SFits w64 (way d +ℤ pos 2 *ℤ c .first2 .result)
-  fwy = rw y-first (fw d)
+  fwy : SFits w64 (way b +ℤ c .first2 .result)
+  fwy = subst (λ (z : ℤ). SFits w64 (way b +ℤ z)) (sym y-first) (fw b)
 
 module _ (c : tie.After-either) where
-  abbrev m : tie.After-first2
-  m = c .before
-
   abbrev o : tie.Start
-  o = d m
+  o = b (c .before)
 
-  test : c .either .result ≡ cond (ltZ (pos 2 *ℤ first (x o)) (way o +ℤ pos 2 *ℤ first (y o))) (pos 1) (pos 0)
-  test = (simp (toZ-ofZ, ffx (m .before), f2fx (m .before), ffy m, f2fy m, o .fits .way, fwy m) at (c .either .ensures))
-      ∙ ap₂ (λ (u v : ℤ). cond (ltZ (pos 2 *ℤ u) (way o +ℤ pos 2 *ℤ v)) (pos 1) (pos 0)) (x-first (m .before)) (y-first m)
+  test : c .either .result ≡ cond (ltZ (first (x o)) (way o +ℤ first (y o))) (pos 1) (pos 0)
+  test = (simp (toZ-ofZ, ffx (c .before), ffy (c .before), o .fits .way, fwy (c .before)) at (c .either .ensures))
+      ∙ ap₂ (λ (u v : ℤ). cond (ltZ u (way o +ℤ v)) (pos 1) (pos 0)) (c .before .before .first .ensures) (y-first (c .before))
 
   is : c .either .result -ℤ pos 2 *ℤ z o ≡ lead (s o) (R o) (x o) (y o) (way o)
   unfolding lead
@@ -142,26 +114,20 @@ module _ (c : tie.After-either) where
   fis : SFits w64 (c .either .result -ℤ pos 2 *ℤ z o)
   fis = rw is (fl o)
 
-mul-either : tie.Need-mul-either
-mul-either c = simp (toZ-ofZ, ffx c) (f2fx c)
-
-mul-either-2 : tie.Need-mul-either-2
-mul-either-2 c = simp (toZ-ofZ, ffy c) (f2fy c)
-
 add-either : tie.Need-add-either
-add-either c = simp (toZ-ofZ, ffy c, f2fy c, d c .fits .way) (fwy c)
+add-either c = simp (toZ-ofZ, ffy c, b c .fits .way) (fwy c)
 
 either-requires : tie.Need-either-requires
 either-requires c κs = search needs
 
 mul-result : tie.Need-mul-result
-mul-result c = let b = o c in simp (toZ-ofZ, b .fits .s, b .fits .rests, f4 b, fR b, fx b, fy b, fd b, f2d b, fz b) (f2z b)
+mul-result c = let b = o c in simp (toZ-ofZ, b .fits .s, b .fits .rests, f4 b, fR b, fx b, fy b, fd b, fz b) (f2z b)
 
 sub-result : tie.Need-sub-result
-sub-result c = let b = o c in simp (toZ-ofZ, b .fits .s, b .fits .rests, f4 b, fR b, fx b, fy b, fd b, f2d b, fz b, f2z b, fe c) (fis c)
+sub-result c = let b = o c in simp (toZ-ofZ, b .fits .s, b .fits .rests, f4 b, fR b, fx b, fy b, fd b, fz b, f2z b, fe c) (fis c)
 
 returns : tie.Need-returns
-returns c = let b = o c in simp (toZ-ofZ, b .fits .s, b .fits .rests, f4 b, fR b, fx b, fy b, fd b, f2d b, fz b, f2z b, fe c, fis c) (is c)
+returns c = let b = o c in simp (toZ-ofZ, b .fits .s, b .fits .rests, f4 b, fR b, fx b, fy b, fd b, fz b, f2z b, fe c, fis c) (is c)
 
 pub lead-spec : {M : Type 1} → statement M
 lead-spec =
@@ -170,12 +136,9 @@ lead-spec =
     mul-z
     sub-z
     sub-z-2
-    mul-z-2
     add-z
     first-requires
-    mul-either
     first-requires-2
-    mul-either-2
     add-either
     either-requires
     mul-result

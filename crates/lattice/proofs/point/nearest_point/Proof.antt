@@ -9,7 +9,7 @@ use lib.ListN.{set}
 use mir.Syntax.{w64}
 use mir.Val.{SFits}
 use mir.Facts.{toZ-ofZ}
-use Rattle.integers.specs.Laws.Sizes.{abs-mul, fits-abs, fits-add}
+use Rattle.integers.specs.Laws.Sizes.{fits-abs, fits-add}
 use Rattle.integers.specs.Laws.Sums.{sized-more}
 use Rattle.integers.specs.Vectors.{«at», Sized}
 use Rattle.lattice.specs.declared.point.Choice.{Choice}
@@ -48,7 +48,7 @@ module _ (b : tie.Start) where
   ranged : Ranged s (scanned 8 F A)
   ranged = scan-ranged s F A (F-sized .small) (A-sized .small) (b .pre .0)
 
-  C-small : (natAbs (C .parity) ≤ 1) × (C .place < 8) × (natAbs (C .step) ≤ 1)
+  C-small : (natAbs (C .parity) ≤ 1) × (C .mend .place < 8) × (natAbs (C .mend .step) ≤ 2)
   C-small = chosen-small s (twice-pos s (b .pre .0 .least) .1) d (b .pre .1 .long) (b .pre .0) ranged
 
 reciprocal-requires : tie.Need-reciprocal-requires
@@ -128,8 +128,8 @@ module _ (c : tie.After-chosen) where
   C-is : c .chosen .result ≡ C b₄
   C-is = (simp (toZ-ofZ, b₄ .fits .s, fw way) at (c .chosen .ensures)) ∙ ap₂ (chosen (s b₄)) (scan-is (seen way)) (way-is way)
 
-  small : (natAbs (c .chosen .result .parity) ≤ 1) × (c .chosen .result .place < 8) × (natAbs (c .chosen .result .step) ≤ 1)
-  small = subst (λ (h : Choice). (natAbs (h .parity) ≤ 1) × (h .place < 8) × (natAbs (h .step) ≤ 1)) (sym C-is) (C-small b₄)
+  small : (natAbs (c .chosen .result .parity) ≤ 1) × (c .chosen .result .mend .place < 8) × (natAbs (c .chosen .result .mend .step) ≤ 2)
+  small = subst (λ (h : Choice). (natAbs (h .parity) ≤ 1) × (h .mend .place < 8) × (natAbs (h .mend .step) ≤ 2)) (sym C-is) (C-small b₄)
 
 spread-requires : tie.Need-spread-requires
 spread-requires c κs = let n = c .before .before .before in let r = made (seen (way n)) in let g : SFits w64 (n .chosen .result .parity) = fits-abs _ (omega (arith, small n .0)) in
@@ -152,42 +152,36 @@ module _ (c : tie.After-spread) where
   e-is = let r = made (seen (way picked)) in let g : SFits w64 (h .parity) = fits-abs _ (omega (arith, small picked .0)) in
       (simp (toZ-ofZ, g) at (c .spread .ensures)) ∙ ap₂ (spreadBy (h .parity)) (f-is r) (a-is r) ∙ ap (λ (k : Choice). spreadBy (k .parity) (F b₅) (A b₅)) (C-is picked)
 
-  e-small : natAbs («at» e (h .place)) ≤ 2 ^ 34
-  e-small = subst (λ (l : List ℤ). natAbs («at» l (h .place)) ≤ 2 ^ 34) (sym e-is) (spread-small (C b₅ .parity) (F b₅) (A b₅) (C-small b₅ .0) (F-sized b₅ .small) (h .place) (small picked .1))
+  e-small : natAbs («at» e (h .mend .place)) ≤ 2 ^ 34
+  e-small = subst (λ (l : List ℤ). natAbs («at» l (h .mend .place)) ≤ 2 ^ 34) (sym e-is) (spread-small (C b₅ .parity) (F b₅) (A b₅) (C-small b₅ .0) (F-sized b₅ .small) (h .mend .place) (small picked .1))
 
-  fe : SFits w64 («at» e (h .place))
+  fe : SFits w64 («at» e (h .mend .place))
   fe = fits-abs _ (omega (arith, e-small))
 
-  ft : SFits w64 (h .step)
+  ft : SFits w64 (h .mend .step)
   ft = fits-abs _ (omega (arith, small picked .2))
 
-  f2t : SFits w64 (pos 2 *ℤ h .step)
-  f2t = fits-abs _ (omega (arith, abs-mul (pos 2) (h .step), small picked .2))
-
-  fet : SFits w64 («at» e (h .place) +ℤ pos 2 *ℤ h .step)
-  fet = fits-add («at» e (h .place)) (pos 2 *ℤ h .step) (omega (arith, e-small, abs-mul (pos 2) (h .step), small picked .2))
+  fet : SFits w64 («at» e (h .mend .place) +ℤ h .mend .step)
+  fet = fits-add («at» e (h .mend .place)) (h .mend .step) (omega (arith, e-small, small picked .2))
 
 mul-e : tie.Need-mul-e
-mul-e c = record { fits = omega (arith, small (picked c) .1) }
+mul-e c = record { fits = omega (arith, small (picked (c .before)) .1) }
 
 array-copy-out-e : tie.Need-array-copy-out-e
-array-copy-out-e c = small (picked c) .1
-
-mul-e-2 : tie.Need-mul-e-2
-mul-e-2 c = let n = c .before .before .before in simp (toZ-ofZ, ft n) (f2t n)
+array-copy-out-e c = small (picked (c .before)) .1
 
 add-e : tie.Need-add-e
-add-e c = let n = c .before .before .before in simp (toZ-ofZ, fe n, ft n, f2t n) (fet n)
+add-e c = let n = c .before .before .before .before in simp (toZ-ofZ, fe n, ft n) (fet n)
 
-mul-e-3 : tie.Need-mul-e-3
-mul-e-3 c = let n = c .before .before .before in record { fits = omega (arith, small (picked n) .1) }
+mul-e-2 : tie.Need-mul-e-2
+mul-e-2 c = let n = c .before .before .before .before in record { fits = omega (arith, small (picked n) .1) }
 
 array-set-from-e : tie.Need-array-set-from-e
-array-set-from-e c = let n = c .before .before .before in small (picked n) .1
+array-set-from-e c = let n = c .before .before .before .before in small (picked n) .1
 
 returns : tie.Need-returns
-returns c = let n = c .before .before .before in let b = b₅ n in simp (toZ-ofZ, fe n, ft n, f2t n, fet n)
-    (ap₂ (λ (e : List ℤ) (h : Choice). set e (h .place) («at» e (h .place) +ℤ pos 2 *ℤ h .step)) (e-is n) (C-is (picked n)) ∙ nearestPoint-code (s b) (twice-pos (s b) (b .pre .0 .least) .1) (d b) (b .pre .1 .long))
+returns c = let n = c .before .before .before .before in let b = b₅ n in simp (toZ-ofZ, fe n, ft n, fet n)
+    (ap₂ (λ (e : List ℤ) (h : Choice). set e (h .mend .place) («at» e (h .mend .place) +ℤ h .mend .step)) (e-is n) (C-is (picked n)) ∙ nearestPoint-code (s b) (twice-pos (s b) (b .pre .0 .least) .1) (d b) (b .pre .1 .long))
 
 pub nearest-point-spec : {M : Type 1} → statement M
 nearest-point-spec =
@@ -202,8 +196,7 @@ nearest-point-spec =
     spread-requires
     mul-e
     array-copy-out-e
-    mul-e-2
     add-e
-    mul-e-3
+    mul-e-2
     array-set-from-e
     returns)
