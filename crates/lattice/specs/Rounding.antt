@@ -28,6 +28,10 @@ rounded S x = record { whole = round S x; rest = left S x }
 abbrev pub sign : ℤ → ℤ
 sign x = cond (ltZ (pos 0) x) (pos 1) (negsuc 0)
 
+-- what is left in the odd half, of x - s, where x is left in the even one
+abbrev pub lowered : ℤ → ℤ → ℤ
+lowered s x = cond (ltZ (pos 0) x) (x -ℤ s) (x +ℤ s)
+
 -- the next nearest
 unfoldable pub turn : ℤ → ℤ → ℤ
 turn S x = round S x +ℤ sign (left S x)
@@ -54,7 +58,7 @@ reciprocal s = 2147483648 / natAbs s
 
 -- a number whose order is the order of `Place`, for the first eight entries: what is left x at the entry i
 abbrev pub key : ℕ → ℤ → ℕ
-key i x = cond (leZ x (pos 0)) (natAbs x * 128 + (15 - i)) (natAbs x * 128 + i)
+key i x = cond (leZ x (pos 0)) (natAbs x * 16 + (15 - i)) (natAbs x * 16 + i)
 
 -- the entry that a key is of
 abbrev pub spot : ℕ → ℕ

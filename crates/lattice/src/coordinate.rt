@@ -3,7 +3,7 @@ ghost use mathlib.Core.Path.{_≡_};
 ghost use mathlib.Core.Bool.{cond};
 ghost use Prim.Native.Nat.{_^_, _≤_, _<_, min, max};
 ghost use lib.IntN.{pos, natAbs, _*ℤ_};
-ghost use Rattle.lattice.specs.Rounding.{Divisor, reciprocal, rounded, sign, key, spot};
+ghost use Rattle.lattice.specs.Rounding.{Divisor, reciprocal, rounded, sign, lowered, key, spot};
 
 // A coordinate rounded, and what that leaves of it.
 pub(crate) struct Rounded {
@@ -44,12 +44,20 @@ pub(crate) fn sign(x: i64) -> i64
     if x > 0 { 1 } else { -1 }
 }
 
+// What the odd half leaves of a coordinate of which the even half leaves x.
+pub(crate) fn lowered(x: i64, s: i64) -> i64
+    requires { ⌜ (natAbs x ≤ 2 ^ 14) × Divisor s ⌝ }
+    ensures { λ r. ⌜ r ≡ lowered s x ⌝ }
+{
+    if x > 0 { x - s } else { x + s }
+}
+
 // The size first; then those that go down, the first of them; then the last of those that go up.
 pub(crate) fn key(x: i64, i: usize) -> usize
     requires { ⌜ (natAbs x ≤ 2 ^ 14) × (i < 8) ⌝ }
     ensures { λ r. ⌜ r ≡ key i x ⌝ }
 {
-    let b = 128 * x + i as i64;
+    let b = 16 * x + i as i64;
     if b <= 7 {
         (15 - b) as usize
     } else {

@@ -8,18 +8,20 @@ ghost use lib.ListN.{length};
 ghost use Rattle.integers.specs.Vectors.{sumV, Sized};
 ghost use Rattle.lattice.specs.Doubled.{par};
 ghost use Rattle.lattice.specs.Rounding.{Divisor, reciprocal, round, left};
-ghost use Rattle.lattice.specs.Pass.{seen, scanned, mended};
+ghost use Rattle.lattice.specs.Pass.{Light, seen, scanned, mended};
 use crate::coordinate;
 
-// What one pass sees: the greatest and the least key, the sum of all keys, and that of all roundings.
+// What one pass sees: the greatest and the least key, the sum of all keys, that of all roundings, and the squares of what the even half leaves and of what the odd one does.
 pub(crate) struct Scan {
     pub most: usize,
     pub least: usize,
     pub keys: usize,
     pub sum: i64,
+    pub even: i64,
+    pub odd: i64,
 }
 
-// How a half is mended: a step at a place, doubled as the point is, 0 where nothing is to be mended; and what it adds to the cost, in units of 2s.
+// How a half is mended: a step at a place, doubled as the point is, 0 where nothing is to be mended; and what it adds to the cost.
 pub(crate) struct Mend {
     pub place: usize,
     pub step: i64,
@@ -43,23 +45,26 @@ pub(crate) fn rounds(d: &[i64; 8], s: i64, w: i64, f: &mut [i64; 8], a: &mut [i6
 }
 
 // One entry more: the rounding f, which leaves a, at the place i.
-fn seen(c: Scan, f: i64, a: i64, i: usize) -> Scan
-    requires { ⌜ (c .keys ≤ 2 ^ 32) × (natAbs (c .sum) ≤ 2 ^ 40) × (natAbs f ≤ 2 ^ 32) × (natAbs a ≤ 2 ^ 14) × (i < 8) ⌝ }
-    ensures { λ r. ⌜ r ≡ seen c f a i ⌝ }
+fn seen(c: Scan, f: i64, a: i64, s: i64, i: usize) -> Scan
+    requires { ⌜ Light c × (natAbs f ≤ 2 ^ 32) × (natAbs a ≤ 2 ^ 14) × Divisor s × (i < 8) ⌝ }
+    ensures { λ r. ⌜ r ≡ seen s c f a i ⌝ }
 {
     let k = coordinate::key(a, i);
+    let b = coordinate::lowered(a, s);
     Scan {
         most: coordinate::greater(c.most, k),
         least: coordinate::smaller(c.least, k),
         keys: c.keys + k,
         sum: c.sum + f,
+        even: c.even + a * a,
+        odd: c.odd + b * b,
     }
 }
 
 // The pass over all eight.
-pub(crate) fn scanned(f: &[i64; 8], a: &[i64; 8]) -> Scan
-    requires { ⌜ Sized 8 (2 ^ 32) (now f) × Sized 8 (2 ^ 14) (now a) ⌝ }
-    ensures { λ c. ⌜ c ≡ scanned 8 (now (f .entry)) (now (a .entry)) ⌝ }
+pub(crate) fn scanned(f: &[i64; 8], a: &[i64; 8], s: i64) -> Scan
+    requires { ⌜ Sized 8 (2 ^ 32) (now f) × Sized 8 (2 ^ 14) (now a) × Divisor s ⌝ }
+    ensures { λ c. ⌜ c ≡ scanned s 8 (now (f .entry)) (now (a .entry)) ⌝ }
 {
     let k = coordinate::key(a[0], 0);
     let mut c = Scan {
@@ -67,10 +72,12 @@ pub(crate) fn scanned(f: &[i64; 8], a: &[i64; 8]) -> Scan
         least: k,
         keys: 0,
         sum: 0,
+        even: 0,
+        odd: 0,
     };
     let mut i: usize = 0;
     while i < 8 {
-        c = seen(c, f[i], a[i], i);
+        c = seen(c, f[i], a[i], s, i);
         i = i + 1;
     }
     c
@@ -78,14 +85,14 @@ pub(crate) fn scanned(f: &[i64; 8], a: &[i64; 8]) -> Scan
 
 // The mend of a half whose greatest key is k, and whose sum is odd or not.
 pub(crate) fn mended(k: usize, odd: bool, s: i64) -> Mend
-    requires { ⌜ Divisor s × (k ≤ 2 ^ 32) ⌝ }
+    requires { ⌜ Divisor s × (k ≤ 2 ^ 20) ⌝ }
     ensures { λ r. ⌜ r ≡ mended s k odd ⌝ }
 {
     let way = coordinate::either(k % 16 < 8, 2, -2);
     Mend {
         place: coordinate::spot(k),
         step: coordinate::either(odd, way, 0),
-        cost: coordinate::either(odd, 2 * (s - (k / 128) as i64), 0),
+        cost: coordinate::either(odd, 4 * s * (s - (k / 16) as i64), 0),
     }
 }
 

@@ -26,12 +26,12 @@ fn first(m: Mend) -> i64
     if m.place == 0 { m.step } else { 0 }
 }
 
-// Above 0 where the even half, mended by x, comes before the odd one, mended by y: by the costs, whose difference is 2s times z, and on equality by the first entries.
-fn lead(rests: i64, x: Mend, y: Mend, way: i64, s: i64) -> i64
-    requires { ⌜ Divisor s × (natAbs rests ≤ 2 ^ 32) × Small x × Small y × (natAbs way ≤ 1) ⌝ }
-    ensures { λ r. ⌜ r ≡ lead s rests x y way ⌝ }
+// Above 0 where the even half, which leaves the squares a and is mended by x, comes before the odd one, by b and y: by the costs, and on equality by the first entries.
+fn lead(a: i64, b: i64, x: Mend, y: Mend, way: i64) -> i64
+    requires { ⌜ (natAbs a ≤ 2 ^ 40) × (natAbs b ≤ 2 ^ 40) × Small x × Small y × (natAbs way ≤ 1) ⌝ }
+    ensures { λ r. ⌜ r ≡ lead a b x y way ⌝ }
 {
-    let z = rests - 4 * s + (x.cost - y.cost);
+    let z = (a + x.cost) - (b + y.cost);
     coordinate::either(first(x) < way + first(y), 1, 0) - 2 * z
 }
 
@@ -43,18 +43,18 @@ fn behind(v: i64) -> i64
     0 - ((v - 1) >> 63)
 }
 
-// The choice, from what the pass has seen and the way of the first entry. The odd half has the keys 128s + 15 less those of the even one; the keys' sum tells its parity, and over 128 it is the sum of what is left, up to sign.
+// The choice, from what the pass has seen and the way of the first entry. The odd half has the keys 16s + 15 less those of the even one, and its sum the parity of the sum and the keys together.
 fn chosen(c: Scan, way: i64, s: i64) -> Choice
     requires { ⌜ Divisor s × Ranged s c × (natAbs way ≤ 1) ⌝ }
     ensures { λ r. ⌜ r ≡ chosen s c way ⌝ }
 {
     let x = half::mended(c.most, half::odd(c.sum), s);
     let y = half::mended(
-        128 * s as usize + 15 - c.least,
+        16 * s as usize + 15 - c.least,
         half::odd(c.sum + c.keys as i64),
         s,
     );
-    let v = lead((c.keys / 128) as i64, x, y, way, s);
+    let v = lead(c.even, c.odd, x, y, way);
     let parity = behind(v);
     if v > 0 {
         Choice { parity, mend: x }
@@ -86,7 +86,7 @@ pub fn nearest_point(d: &[i64; 8], s: i64) -> [i64; 8]
     let mut f: [i64; 8] = [0; 8];
     let mut a: [i64; 8] = [0; 8];
     half::rounds(d, s, w, &mut f, &mut a);
-    let c = chosen(half::scanned(&f, &a), coordinate::sign(a[0]), s);
+    let c = chosen(half::scanned(&f, &a, s), coordinate::sign(a[0]), s);
     let mut e = spread(c.parity, &f, &a);
     let m = c.mend;
     let j = m.place;

@@ -4,19 +4,19 @@ use mathlib.Core.Bool.{Bool, true, false, cond}
 use mathlib.Core.List.{List, [], _∷_, map}
 use Prim.Native.Nat.{ℕ, zero, suc, _+_, _*_, _-_, _/_, _%_, _^_, _<_, _≤_}
 use native.Mathlib.Omega.{arith}
-use native.Mathlib.Nat.{zero-add, div-le-self}
+use native.Mathlib.Nat.{zero-add}
 use borrow.Author.Tests.{le-leb}
 use lib.Dec.{T, eqb, ltb}
 use lib.IntN.{ℤ, pos, negsuc, natAbs, _+ℤ_, _-ℤ_, _*ℤ_}
-use lib.ListN.{length, set, length-map}
+use lib.ListN.{length, take, set, length-map}
 use lib.Seq.{ext-getD, take-all}
 use lib.Signed.{_≤ℤ_, _<ℤ_, leZ, ltZ, shrZ, ≤ℤ-refl}
 use Rattle.integers.specs.Laws.Difference.{byD, ints, byD₂, byD₃, byD₄}
 use Rattle.integers.specs.Laws.Loops.{range-at}
-use Rattle.integers.specs.Laws.Signed.{<ℤ-weak, slack<, slack>, trichotomy}
+use Rattle.integers.specs.Laws.Signed.{<ℤ-weak, trichotomy}
 use Rattle.integers.specs.Laws.Sizes.{abs-add, abs-sub, abs-mul, abs-mul-le, leZ-true, leZ-false, ltZ-true, ltZ-false, leZ-not, ltZ-not}
 use Rattle.integers.specs.Laws.Sums.{at-map}
-use Rattle.integers.specs.Vectors.{square, «at», sumV, Bounded}
+use Rattle.integers.specs.Vectors.{«at», sumV, dot, Bounded}
 use Rattle.lattice.specs.declared.half.Mend.{Mend}
 use Rattle.lattice.specs.declared.half.Scan.{Scan}
 use Rattle.lattice.specs.declared.point.Choice.{Choice}
@@ -26,10 +26,9 @@ use Rattle.lattice.specs.Laws.Dn.{nearestD-least}
 use Rattle.lattice.specs.Laws.Halves.{cost-spread, double-pos}
 use Rattle.lattice.specs.Laws.Keys.{top-place}
 use Rattle.lattice.specs.Laws.Least.{leV-heads}
-use Rattle.lattice.specs.Laws.Lowered.{cost-lower}
 use Rattle.lattice.specs.Laws.Mended.{mend-nearest, mend-cost, mend-first}
 use Rattle.lattice.specs.Laws.Parity.{parities}
-use Rattle.lattice.specs.Laws.Scans.{scan-sum, scan-top, scan-rests, twin-at, odd-top, odd-parity}
+use Rattle.lattice.specs.Laws.Scans.{scan-sum, scan-even, scan-odd, scan-top, twin-at, odd-top, odd-parity}
 use Rattle.lattice.specs.Nearest.{cost}
 use Rattle.lattice.specs.Pass.{Ranged, Small, scanned, mended, first, lead, evenMend, oddMend, chosen, choose, spreadBy}
 use Rattle.lattice.specs.Rounding.{round, left, sign, Divisor}
@@ -102,45 +101,31 @@ module _ (s : ℤ) (s> : pos 0 <ℤ s) (d : List ℤ) (long : length d ≡ 8) wh
 
 -- ---- the comparison by one number
 
--- the difference of the costs, from what the mends add to those of the roundings
-costs-apart : (s A B R X Y : ℤ) → B +ℤ pos 2 *ℤ s *ℤ R ≡ A +ℤ pos 8 *ℤ square s
-    → (A +ℤ pos 2 *ℤ s *ℤ X) -ℤ (B +ℤ pos 2 *ℤ s *ℤ Y) ≡ pos 2 *ℤ s *ℤ (R -ℤ pos 4 *ℤ s +ℤ (X -ℤ Y))
-costs-apart = byD₃ _ λ _ _ _ _ _ _. byD₃ _ λ _ _ _ _ _ _. simp ints (omega arith)
-
--- it has the sign of z
-less : (S : ℤ) → pos 0 <ℤ S → (z : ℤ) → z ≤ℤ negsuc 0 → (a b : ℤ) → a -ℤ b ≡ S *ℤ z → a <ℤ b
-less = slack< _ (pos 0) λ n. slack> _ (negsuc 0) λ m. byD₂ _ λ _ _ _ _. simp ints (omega arith)
-
-equal : (S a b : ℤ) → a -ℤ b ≡ S *ℤ pos 0 → a ≡ b
-equal = byD₃ _ λ _ _ _ _ _ _. simp ints (omega arith)
-
-more : (S : ℤ) → pos 0 <ℤ S → (z : ℤ) → pos 0 <ℤ z → (a b : ℤ) → a -ℤ b ≡ S *ℤ z → b <ℤ a
-more = slack< _ (pos 0) λ n. slack< _ (pos 0) λ m. byD₂ _ λ _ _ _ _. simp ints (omega arith)
-
 holds : (b : Bool) → T b → b ≡ true
 holds true h = refl
 holds false h = absurd h
 
--- and decides before the test t does
-module _ (S a b z : ℤ) (t : Bool) (S> : pos 0 <ℤ S) (e : a -ℤ b ≡ S *ℤ z) where
-  decides : inTurn (ltZ a b) (leZ a b) t ≡ ltZ (pos 0) (cond t (pos 1) (pos 0) -ℤ pos 2 *ℤ z)
-  decides = trichotomy z (pos 0)
-      (λ l. ap (λ (u : Bool). inTurn u (leZ a b) t) (holds (ltZ a b) (less S S> z (under z l) a b e .lt)) ∙ sym (holds (ltZ (pos 0) (cond t (pos 1) (pos 0) -ℤ pos 2 *ℤ z)) (front t z l .lt)))
-      (λ q. let k : a ≡ b = equal S a b (rw q at e) in rw (k, q) (ap₂ (λ (u v : Bool). inTurn u v t) (ltZ-not b b true (holds (leZ b b) (≤ℤ-refl b .le))) (holds (leZ b b) (≤ℤ-refl b .le)) ∙ last t))
-      (λ l. let k : b <ℤ a = more S S> z l a b e in
-      ap₂ (λ (u v : Bool). inTurn u v t) (ltZ-not a b true (holds (leZ b a) (<ℤ-weak b a k .le))) (leZ-not a b true (holds (ltZ b a) (k .lt)))
-      ∙ sym (ltZ-not (pos 0) (cond t (pos 1) (pos 0) -ℤ pos 2 *ℤ z) true (holds (leZ (cond t (pos 1) (pos 0) -ℤ pos 2 *ℤ z) (pos 0)) (back t z l .le))))
+-- the difference of the costs decides before the test t does
+module _ (a b : ℤ) (t : Bool) where
+  abbrev v : ℤ
+  v = cond t (pos 1) (pos 0) -ℤ pos 2 *ℤ (a -ℤ b)
+
+  decides : inTurn (ltZ a b) (leZ a b) t ≡ ltZ (pos 0) v
+  decides = trichotomy a b
+      (λ l. ap (λ (u : Bool). inTurn u (leZ a b) t) (holds (ltZ a b) (l .lt)) ∙ sym (holds (ltZ (pos 0) v) (front t a b l .lt)))
+      (λ e. rw e (ap₂ (λ (u w : Bool). inTurn u w t) (ltZ-not b b true (holds (leZ b b) (≤ℤ-refl b .le))) (holds (leZ b b) (≤ℤ-refl b .le)) ∙ last t ∙ ap (λ (z : ℤ). ltZ (pos 0) (cond t (pos 1) (pos 0) -ℤ pos 2 *ℤ z)) (none b)))
+      (λ l. ap₂ (λ (u w : Bool). inTurn u w t) (ltZ-not a b true (holds (leZ b a) (<ℤ-weak b a l .le))) (leZ-not a b true (holds (ltZ b a) (l .lt))) ∙ sym (ltZ-not (pos 0) v true (holds (leZ v (pos 0)) (back t a b l .le))))
     where
-      under : (z : ℤ) → z <ℤ pos 0 → z ≤ℤ negsuc 0
-      under = byD _ λ _ _. simp ints (omega arith)
+      front : (t : Bool) (a b : ℤ) → a <ℤ b → pos 0 <ℤ (cond t (pos 1) (pos 0) -ℤ pos 2 *ℤ (a -ℤ b))
+      front true = byD₂ _ λ _ _ _ _. simp ints (omega arith)
+      front false = byD₂ _ λ _ _ _ _. simp ints (omega arith)
 
-      front : (t : Bool) (z : ℤ) → z <ℤ pos 0 → pos 0 <ℤ (cond t (pos 1) (pos 0) -ℤ pos 2 *ℤ z)
-      front true = byD _ λ _ _. simp ints (omega arith)
-      front false = byD _ λ _ _. simp ints (omega arith)
+      back : (t : Bool) (a b : ℤ) → b <ℤ a → (cond t (pos 1) (pos 0) -ℤ pos 2 *ℤ (a -ℤ b)) ≤ℤ pos 0
+      back true = byD₂ _ λ _ _ _ _. simp ints (omega arith)
+      back false = byD₂ _ λ _ _ _ _. simp ints (omega arith)
 
-      back : (t : Bool) (z : ℤ) → pos 0 <ℤ z → (cond t (pos 1) (pos 0) -ℤ pos 2 *ℤ z) ≤ℤ pos 0
-      back true = byD _ λ _ _. simp ints (omega arith)
-      back false = byD _ λ _ _. simp ints (omega arith)
+      none : (b : ℤ) → pos 0 ≡ b -ℤ b
+      none = byD _ λ _ _. simp ints (omega arith)
 
       last : (t : Bool) → t ≡ ltZ (pos 0) (cond t (pos 1) (pos 0) -ℤ pos 2 *ℤ pos 0)
       last true = refl
@@ -192,9 +177,19 @@ sign-small x = go (ltZ (pos 0) x)
     go true = omega arith
     go false = omega arith
 
-pub mended-small : (s : ℤ) → Divisor s → (k : ℕ) → k ≤ 2 ^ 32 → (b : Bool) → Small (mended s k b)
+-- a mend's cost, with what the code forms on the way
+pub four-small : (s : ℤ) → Divisor s → natAbs (pos 4 *ℤ s) ≤ 2 ^ 16
+four-small s h = omega (arith, abs-mul (pos 4) s, h .most)
+
+pub less-small : (s : ℤ) → Divisor s → (k : ℕ) → k ≤ 2 ^ 20 → natAbs (s -ℤ pos (k / 16)) ≤ 2 ^ 17
+less-small s h k l = omega (arith, abs-sub s (pos (k / 16)), h .most)
+
+pub mend-small : (s : ℤ) → Divisor s → (k : ℕ) → k ≤ 2 ^ 20 → natAbs (pos 4 *ℤ s *ℤ (s -ℤ pos (k / 16))) ≤ 2 ^ 33
+mend-small s h k l = omega (arith, abs-mul-le (pos 4 *ℤ s) (s -ℤ pos (k / 16)) (four-small s h) (less-small s h k l))
+
+pub mended-small : (s : ℤ) → Divisor s → (k : ℕ) → k ≤ 2 ^ 20 → (b : Bool) → Small (mended s k b)
 unfolding mended
-mended-small s h k l true = record { step = go (ltb (k % 16) 8); cost = omega (arith, abs-mul (pos 2) (s -ℤ pos (k / 128)), abs-sub s (pos (k / 128)), h .most, div-le-self k 128) }
+mended-small s h k l true = record { step = go (ltb (k % 16) 8); cost = omega (arith, mend-small s h k l) }
   where
     go : (b : Bool) → natAbs (cond b (pos 2) (negsuc 1)) ≤ 2
     go true = omega arith
@@ -208,20 +203,14 @@ first-small m h = go (eqb (m .place) 0)
     go true = h .step
     go false = omega arith
 
-module _ (s R : ℤ) (x y : Mend) (h : Divisor s) (r : natAbs R ≤ 2 ^ 32) (k : Small x) (l : Small y) where
-  pub four-small : natAbs (pos 4 *ℤ s) ≤ 2 ^ 16
-  four-small = omega (arith, abs-mul (pos 4) s, h .most)
+module _ (a b : ℤ) (x y : Mend) (h : natAbs a ≤ 2 ^ 40) (l : natAbs b ≤ 2 ^ 40) (p : Small x) (q : Small y) where
+  pub apart-small : natAbs ((a +ℤ x .cost) -ℤ (b +ℤ y .cost)) ≤ 2 ^ 42
+  apart-small = omega (arith, abs-sub (a +ℤ x .cost) (b +ℤ y .cost), abs-add a (x .cost), abs-add b (y .cost), p .cost, q .cost)
 
-  pub costs-small : natAbs (x .cost -ℤ y .cost) ≤ 2 ^ 41
-  costs-small = omega (arith, abs-sub (x .cost) (y .cost), k .cost, l .cost)
-
-  pub apart-small : natAbs (R -ℤ pos 4 *ℤ s +ℤ (x .cost -ℤ y .cost)) ≤ 2 ^ 43
-  apart-small = omega (arith, abs-add (R -ℤ pos 4 *ℤ s) (x .cost -ℤ y .cost), abs-sub R (pos 4 *ℤ s), four-small, costs-small)
-
-  pub lead-small : (w : ℤ) → natAbs (lead s R x y w) ≤ 2 ^ 62
+  pub lead-small : (w : ℤ) → natAbs (lead a b x y w) ≤ 2 ^ 62
   unfolding lead
-  lead-small w = let z : ℤ = R -ℤ pos 4 *ℤ s +ℤ (x .cost -ℤ y .cost) in let b : Bool = ltZ (first x) (w +ℤ first y) in
-      omega (arith, abs-sub (cond b (pos 1) (pos 0)) (pos 2 *ℤ z), abs-mul (pos 2) z, apart-small, bit-small b)
+  lead-small w = let z : ℤ = (a +ℤ x .cost) -ℤ (b +ℤ y .cost) in let t : Bool = ltZ (first x) (w +ℤ first y) in
+      omega (arith, abs-sub (cond t (pos 1) (pos 0)) (pos 2 *ℤ z), abs-mul (pos 2) z, apart-small, bit-small t)
 
 -- ---- the doubled entries
 
@@ -265,48 +254,55 @@ module _ (s : ℤ) (s> : pos 0 <ℤ s) (d : List ℤ) (long : length d ≡ 8) wh
   abbrev g : List ℤ
   g = map (round S) L
 
+  abbrev b : List ℤ
+  b = map (left S) L
+
   long-L : length L ≡ 8
   long-L = length-map d _ ∙ long
 
   abbrev c : Scan
-  c = scanned 8 f a
+  c = scanned s 8 f a
 
   abbrev x : Mend
   x = mended s (c .most) (eqb (par (sumV f)) 1)
 
   abbrev y : Mend
-  y = mended s (128 * natAbs s + 15 - c .least) (eqb (par (sumV g)) 1)
+  y = mended s (16 * natAbs s + 15 - c .least) (eqb (par (sumV g)) 1)
 
   x-is : evenMend s c ≡ x
-  x-is = ap (λ (z : ℤ). mended s (c .most) (eqb (par z) 1)) (scan-sum f a 8 ∙ ap sumV (take-all 8 f (omega (arith, length-map d (round S)))))
+  x-is = ap (λ (z : ℤ). mended s (c .most) (eqb (par z) 1)) (scan-sum s f a 8 ∙ ap sumV (take-all 8 f (omega (arith, length-map d (round S)))))
 
   y-is : oddMend s c ≡ y
-  y-is = ap (λ (n : ℕ). mended s (128 * natAbs s + 15 - c .least) (eqb n 1)) (odd-parity s s> d long)
+  y-is = ap (λ (n : ℕ). mended s (16 * natAbs s + 15 - c .least) (eqb n 1)) (odd-parity s s> d long)
 
-  abbrev z : ℤ
-  z = pos (c .keys / 128) -ℤ pos 4 *ℤ s +ℤ (x .cost -ℤ y .cost)
+  costs : (cost S d (nearestD S d) ≡ c .even +ℤ x .cost) × (cost S L (nearestD S L) ≡ c .odd +ℤ y .cost)
+  costs = (
+    mend-cost s s> d long (c .most) (scan-top s f a) ∙ ap (λ (z : ℤ). z +ℤ x .cost) (sym (scan-even s f a 8 ∙ ap₂ dot a-all a-all)),
+    mend-cost s s> L long-L (16 * natAbs s + 15 - c .least) (odd-top s s> d long) ∙ ap (λ (z : ℤ). z +ℤ y .cost) (sym (scan-odd s f a b (λ i h. twin-at s s> d long i h .rest) 8 (omega arith) ∙ ap₂ dot b-all b-all)),
+  )
+    where
+      a-all : take 8 a ≡ a
+      a-all = take-all 8 a (omega (arith, length-map d (left S)))
 
-  costs : cost S d (nearestD S d) -ℤ cost S L (nearestD S L) ≡ S *ℤ z
-  costs = ap₂ _-ℤ_ (mend-cost s s> d long (c .most) (scan-top f a)) (mend-cost s s> L long-L (128 * natAbs s + 15 - c .least) (odd-top s s> d long))
-      ∙ costs-apart s (cost S d f) (cost S L g) (pos (c .keys / 128)) (x .cost) (y .cost)
-      (ap (λ (n : ℕ). cost S L g +ℤ S *ℤ pos n) (scan-rests f a (length-map d (left S) ∙ long)) ∙ cost-lower s s> d ∙ ap (λ (n : ℕ). cost S d f +ℤ pos n *ℤ square s) long)
+      b-all : take 8 b ≡ b
+      b-all = take-all 8 b (omega (arith, length-map L (left S), long-L))
 
   firsts : leZ («at» (nearestD S d) 0) («at» (nearestD S L) 0) ≡ ltZ (first x) (sign («at» a 0) +ℤ first y)
   firsts = first-test («at» f 0) («at» g 0) (sign («at» a 0)) (first x) (first y) («at» (nearestD S d) 0) («at» (nearestD S L) 0) (twin-at s s> d long 0 (omega arith) .doubled)
-      (mend-first s s> d long (c .most) (scan-top f a)) (mend-first s s> L long-L (128 * natAbs s + 15 - c .least) (odd-top s s> d long))
+      (mend-first s s> d long (c .most) (scan-top s f a)) (mend-first s s> L long-L (16 * natAbs s + 15 - c .least) (odd-top s s> d long))
 
   abbrev t : Bool
-  t = ltZ (pos 0) (lead s (pos (c .keys / 128)) x y (sign («at» a 0)))
+  t = ltZ (pos 0) (lead (c .even) (c .odd) x y (sign («at» a 0)))
 
   chosen-is : chosen s c (sign («at» a 0)) ≡ choose t x y
   unfolding chosen
-  chosen-is = ap₂ (λ (x y : Mend). choose (ltZ (pos 0) (lead s (pos (c .keys / 128)) x y (sign («at» a 0)))) x y) x-is y-is
+  chosen-is = ap₂ (λ (x y : Mend). choose (ltZ (pos 0) (lead (c .even) (c .odd) x y (sign («at» a 0)))) x y) x-is y-is
 
   nearest-is : nearestPoint s d ≡ cond t (spread 0 (nearestD S d)) (spread 1 (nearestD S L))
   unfolding lead
   nearest-is = nearest-halves s s> d long ∙ ap (λ (u : Bool). cond u (spread 0 (nearestD S d)) (spread 1 (nearestD S L)))
-      (decides S (cost S d (nearestD S d)) (cost S L (nearestD S L)) z (leZ («at» (nearestD S d) 0) («at» (nearestD S L) 0)) (double-pos s s>) costs
-      ∙ ap (λ (u : Bool). ltZ (pos 0) (cond u (pos 1) (pos 0) -ℤ pos 2 *ℤ z)) firsts)
+      (decides (cost S d (nearestD S d)) (cost S L (nearestD S L)) (leZ («at» (nearestD S d) 0) («at» (nearestD S L) 0))
+      ∙ ap₂ (λ (u : Bool) (z : ℤ). ltZ (pos 0) (cond u (pos 1) (pos 0) -ℤ pos 2 *ℤ z)) firsts (ap₂ _-ℤ_ (costs .0) (costs .1)))
 
   -- the half of the choice, mended
   abbrev made : Choice → List ℤ
@@ -314,14 +310,14 @@ module _ (s : ℤ) (s> : pos 0 <ℤ s) (d : List ℤ) (long : length d ≡ 8) wh
 
   place-small : (b : Bool) → choose b x y .mend .place < 8
   unfolding mended
-  place-small true = top-place (scan-top f a) .within
+  place-small true = top-place (scan-top s f a) .within
   place-small false = top-place (odd-top s s> d long) .within
 
   made-is : (b : Bool) → made (choose b x y) ≡ cond b (spread 0 (nearestD S d)) (spread 1 (nearestD S L))
-  made-is true = let n = mend-nearest s s> d long (c .most) (scan-top f a) in
+  made-is true = let n = mend-nearest s s> d long (c .most) (scan-top s f a) in
       ap₂ (λ (e : List ℤ) (t : ℤ). set e (x .place) («at» e (x .place) +ℤ t)) (spread-by (pos 0) 0 f a f (length-map d _ ∙ long) (λ i h. no-step («at» f i) (sign («at» a i)))) (n .1)
       ∙ spread-set 0 f (x .place) (n .0) (omega (arith, place-small true, length-map d (round S))) ∙ ap (spread 0) (n .2)
-  made-is false = let n = mend-nearest s s> L long-L (128 * natAbs s + 15 - c .least) (odd-top s s> d long) in
+  made-is false = let n = mend-nearest s s> L long-L (16 * natAbs s + 15 - c .least) (odd-top s s> d long) in
       ap₂ (λ (e : List ℤ) (t : ℤ). set e (y .place) («at» e (y .place) +ℤ t)) (spread-by (pos 1) 1 f a g (length-map L _ ∙ long-L) (λ i h. twin-at s s> d long i h .doubled)) (n .1)
       ∙ spread-set 1 g (y .place) (n .0) (omega (arith, place-small false, length-map L (round S), long-L)) ∙ ap (spread 1) (n .2)
 
@@ -331,7 +327,7 @@ module _ (s : ℤ) (s> : pos 0 <ℤ s) (d : List ℤ) (long : length d ≡ 8) wh
     where
       go : (b : Bool) → (natAbs (choose b x y .parity) ≤ 1) × (choose b x y .mend .place < 8) × (natAbs (choose b x y .mend .step) ≤ 2)
       go true = (omega arith, place-small true, mended-small s h (c .most) (k .most) (eqb (par (sumV f)) 1) .step)
-      go false = (omega arith, place-small false, mended-small s h (128 * natAbs s + 15 - c .least) (omega (arith, h .most)) (eqb (par (sumV g)) 1) .step)
+      go false = (omega arith, place-small false, mended-small s h (16 * natAbs s + 15 - c .least) (omega (arith, h .most)) (eqb (par (sumV g)) 1) .step)
 
   -- it is the nearest point
   pub nearestPoint-code : made (chosen s c (sign («at» a 0))) ≡ nearestPoint s d

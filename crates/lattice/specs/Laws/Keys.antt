@@ -16,8 +16,8 @@ use Rattle.lattice.specs.Rounding.{sign, Place, key, spot}
 
 -- a key by the two cases of its entry
 data Key (i : ℕ) (x : ℤ) (k : ℕ) : Type 0 where
-  down : x ≤ℤ pos 0 → sign x ≡ negsuc 0 → k ≡ natAbs x * 128 + (15 - i) → Key i x k
-  up : pos 0 <ℤ x → sign x ≡ pos 1 → k ≡ natAbs x * 128 + i → Key i x k
+  down : x ≤ℤ pos 0 → sign x ≡ negsuc 0 → k ≡ natAbs x * 16 + (15 - i) → Key i x k
+  up : pos 0 <ℤ x → sign x ≡ pos 1 → k ≡ natAbs x * 16 + i → Key i x k
 
 keys : (i : ℕ) (x : ℤ) → Key i x (key i x)
 keys i x = go (leZ x (pos 0)) refl
@@ -25,50 +25,50 @@ keys i x = go (leZ x (pos 0)) refl
     way : (b : Bool) → leZ x (pos 0) ≡ b → sign x ≡ cond (not b) (pos 1) (negsuc 0)
     way b e = ap (λ (t : Bool). cond t (pos 1) (negsuc 0)) (ltZ-not (pos 0) x b e)
 
-    go : (b : Bool) → leZ x (pos 0) ≡ b → Key i x (cond b (natAbs x * 128 + (15 - i)) (natAbs x * 128 + i))
+    go : (b : Bool) → leZ x (pos 0) ≡ b → Key i x (cond b (natAbs x * 16 + (15 - i)) (natAbs x * 16 + i))
     go true e = down (leZ-true _ _ e) (way true e) refl
     go false e = up (leZ-false _ _ e) (way false e) refl
 
-pub key-down : (i : ℕ) (x : ℤ) → x ≤ℤ pos 0 → (sign x ≡ negsuc 0) × (key i x ≡ natAbs x * 128 + (15 - i))
+pub key-down : (i : ℕ) (x : ℤ) → x ≤ℤ pos 0 → (sign x ≡ negsuc 0) × (key i x ≡ natAbs x * 16 + (15 - i))
 key-down i x h = go (key i x) (keys i x)
   where
-    go : (k : ℕ) → Key i x k → (sign x ≡ negsuc 0) × (k ≡ natAbs x * 128 + (15 - i))
+    go : (k : ℕ) → Key i x k → (sign x ≡ negsuc 0) × (k ≡ natAbs x * 16 + (15 - i))
     go k (down l w e) = (w, e)
     go k (up l w e) = clashℤ l h
 
-pub key-up : (i : ℕ) (x : ℤ) → pos 0 <ℤ x → (sign x ≡ pos 1) × (key i x ≡ natAbs x * 128 + i)
+pub key-up : (i : ℕ) (x : ℤ) → pos 0 <ℤ x → (sign x ≡ pos 1) × (key i x ≡ natAbs x * 16 + i)
 key-up i x h = go (key i x) (keys i x)
   where
-    go : (k : ℕ) → Key i x k → (sign x ≡ pos 1) × (k ≡ natAbs x * 128 + i)
+    go : (k : ℕ) → Key i x k → (sign x ≡ pos 1) × (k ≡ natAbs x * 16 + i)
     go k (down l w e) = clashℤ h l
     go k (up l w e) = (w, e)
 
--- a key as the code computes it, from 128 x + i
-pub code-down : (i : ℕ) → i < 8 → (x : ℤ) → (pos 128 *ℤ x +ℤ pos i) ≤ℤ pos 7 → (pos 0 ≤ℤ (pos 15 -ℤ (pos 128 *ℤ x +ℤ pos i))) × (natAbs (pos 15 -ℤ (pos 128 *ℤ x +ℤ pos i)) ≡ key i x)
+-- a key as the code computes it, from 16 x + i
+pub code-down : (i : ℕ) → i < 8 → (x : ℤ) → (pos 16 *ℤ x +ℤ pos i) ≤ℤ pos 7 → (pos 0 ≤ℤ (pos 15 -ℤ (pos 16 *ℤ x +ℤ pos i))) × (natAbs (pos 15 -ℤ (pos 16 *ℤ x +ℤ pos i)) ≡ key i x)
 code-down i h x l = let g = go i h x l in (g .0, g .2 ∙ sym (key-down i x (g .1) .1))
   where
-    go : (i : ℕ) → i < 8 → (x : ℤ) → (pos 128 *ℤ x +ℤ pos i) ≤ℤ pos 7
-        → (pos 0 ≤ℤ (pos 15 -ℤ (pos 128 *ℤ x +ℤ pos i))) × (x ≤ℤ pos 0) × (natAbs (pos 15 -ℤ (pos 128 *ℤ x +ℤ pos i)) ≡ natAbs x * 128 + (15 - i))
+    go : (i : ℕ) → i < 8 → (x : ℤ) → (pos 16 *ℤ x +ℤ pos i) ≤ℤ pos 7
+        → (pos 0 ≤ℤ (pos 15 -ℤ (pos 16 *ℤ x +ℤ pos i))) × (x ≤ℤ pos 0) × (natAbs (pos 15 -ℤ (pos 16 *ℤ x +ℤ pos i)) ≡ natAbs x * 16 + (15 - i))
     go i h = byD _ λ _ _. simp (ints, abs-D) (omega arith)
 
-pub code-up : (i : ℕ) → i < 8 → (x : ℤ) → pos 7 <ℤ (pos 128 *ℤ x +ℤ pos i) → (pos 0 ≤ℤ (pos 128 *ℤ x +ℤ pos i)) × (natAbs (pos 128 *ℤ x +ℤ pos i) ≡ key i x)
+pub code-up : (i : ℕ) → i < 8 → (x : ℤ) → pos 7 <ℤ (pos 16 *ℤ x +ℤ pos i) → (pos 0 ≤ℤ (pos 16 *ℤ x +ℤ pos i)) × (natAbs (pos 16 *ℤ x +ℤ pos i) ≡ key i x)
 code-up i h x l = let g = go i h x l in (g .0, g .2 ∙ sym (key-up i x (g .1) .1))
   where
-    go : (i : ℕ) → i < 8 → (x : ℤ) → pos 7 <ℤ (pos 128 *ℤ x +ℤ pos i) → (pos 0 ≤ℤ (pos 128 *ℤ x +ℤ pos i)) × (pos 0 <ℤ x) × (natAbs (pos 128 *ℤ x +ℤ pos i) ≡ natAbs x * 128 + i)
+    go : (i : ℕ) → i < 8 → (x : ℤ) → pos 7 <ℤ (pos 16 *ℤ x +ℤ pos i) → (pos 0 ≤ℤ (pos 16 *ℤ x +ℤ pos i)) × (pos 0 <ℤ x) × (natAbs (pos 16 *ℤ x +ℤ pos i) ≡ natAbs x * 16 + i)
     go i h = byD _ λ _ _. simp (ints, abs-D) (omega arith)
 
--- a key is its entry's size, 128 times, and little more
-pub key-small : (i : ℕ) (x : ℤ) → i < 8 → (128 * natAbs x ≤ key i x) × (key i x ≤ 128 * natAbs x + 15)
+-- a key is its entry's size, 16 times, and little more
+pub key-small : (i : ℕ) (x : ℤ) → i < 8 → (16 * natAbs x ≤ key i x) × (key i x ≤ 16 * natAbs x + 15)
 key-small i x h = go (key i x) (keys i x)
   where
-    go : (k : ℕ) → Key i x k → (128 * natAbs x ≤ k) × (k ≤ 128 * natAbs x + 15)
+    go : (k : ℕ) → Key i x k → (16 * natAbs x ≤ k) × (k ≤ 16 * natAbs x + 15)
     go k (down l w e) = (omega arith, omega arith)
     go k (up l w e) = (omega arith, omega arith)
 
 -- the entry, the size and the way of a key's entry, read off the key
 pub record Reads (k j : ℕ) (x : ℤ) : Type 0 where
   pub entry : spot k ≡ j
-  pub size : k / 128 ≡ natAbs x
+  pub size : k / 16 ≡ natAbs x
   pub way : cond (ltb (k % 16) 8) (pos 1) (negsuc 0) ≡ sign x
 
 key-reads : (j : ℕ) (x : ℤ) → j < 8 → Reads (key j x) j x
@@ -97,11 +97,11 @@ largest r j j< h = record {
     A : ℕ → ℤ
     A i = «at» r i
 
-    first : (i : ℕ) (k l : ℕ) → i < j → Key i (A i) k → natAbs (A i) ≡ natAbs (A j) → l ≡ natAbs (A j) * 128 + (15 - j) → k ≤ l → pos 0 <ℤ A i
+    first : (i : ℕ) (k l : ℕ) → i < j → Key i (A i) k → natAbs (A i) ≡ natAbs (A j) → l ≡ natAbs (A j) * 16 + (15 - j) → k ≤ l → pos 0 <ℤ A i
     first i k l i< (down p w e) q g m = absurd (omega arith)
     first i k l i< (up p w e) q g m = p
 
-    last : (i : ℕ) (k l : ℕ) → i < 8 → Key i (A i) k → natAbs (A i) ≡ natAbs (A j) → l ≡ natAbs (A j) * 128 + j → k ≤ l → (pos 0 <ℤ A i) × (i ≤ j)
+    last : (i : ℕ) (k l : ℕ) → i < 8 → Key i (A i) k → natAbs (A i) ≡ natAbs (A j) → l ≡ natAbs (A j) * 16 + j → k ≤ l → (pos 0 <ℤ A i) × (i ≤ j)
     last i k l i< (down p w e) q g m = absurd (omega arith)
     last i k l i< (up p w e) q g m = (p, omega arith)
 

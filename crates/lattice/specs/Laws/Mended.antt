@@ -11,10 +11,10 @@ use lib.IntN.{ℤ, pos, negsuc, natAbs, _+ℤ_, _-ℤ_, _*ℤ_, +ℤ-idr}
 use lib.ListN.{length, set, length-map}
 use lib.Seq.{set-getD}
 use lib.Signed.{_<ℤ_}
-use Rattle.integers.specs.Laws.Difference.{byD, ints, byD₂}
+use Rattle.integers.specs.Laws.Difference.{byD, ints}
 use Rattle.integers.specs.Laws.Signed.{*ℤ-+ℤ}
 use Rattle.integers.specs.Laws.Sums.{at-map, sized-map}
-use Rattle.integers.specs.Vectors.{«at», sumV, Sized}
+use Rattle.integers.specs.Vectors.{square, «at», sumV, dot, Sized}
 use Rattle.lattice.specs.declared.half.Mend.{Mend}
 use Rattle.lattice.specs.Computed.{nearestD}
 use Rattle.lattice.specs.Doubled.{par}
@@ -42,11 +42,13 @@ module _ (s : ℤ) (h : Divisor s) (v : List ℤ) (k : Sized 8 (2 ^ 30) v) where
 -- ---- the mend
 
 -- what it adds to the cost
-mend-step : (n : ℕ) (s : ℤ) → pos 2 *ℤ s *ℤ (pos 2 *ℤ s) -ℤ pos 2 *ℤ (pos 2 *ℤ s) *ℤ pos n ≡ pos 2 *ℤ s *ℤ (pos 2 *ℤ (s -ℤ pos n))
+mend-step : (n : ℕ) (s : ℤ) → pos 2 *ℤ s *ℤ (pos 2 *ℤ s) -ℤ pos 2 *ℤ (pos 2 *ℤ s) *ℤ pos n ≡ pos 4 *ℤ s *ℤ (s -ℤ pos n)
 mend-step n = byD _ λ _ _. simp ints (omega arith)
 
-mend-none : (c S : ℤ) → c ≡ c +ℤ S *ℤ pos 0
-mend-none = byD₂ _ λ _ _ _ _. simp ints (omega arith)
+-- the cost of rounding is the sum of the squares of what it leaves
+cost-rounds : (S : ℤ) (v : List ℤ) → cost S v (map (round S) v) ≡ dot (map (left S) v) (map (left S) v)
+cost-rounds S [] = refl
+cost-rounds S (x ∷ v) = ap (λ (t : ℤ). square (left S x) +ℤ t) (cost-rounds S v)
 
 -- the first entry, doubled
 first-of : (f : List ℤ) (j : ℕ) (t : ℤ) → 0 < length f → pos 2 *ℤ «at» (set f j («at» f j +ℤ t)) 0 ≡ pos 2 *ℤ «at» f 0 +ℤ cond (eqb j 0) (pos 2 *ℤ t) (pos 0)
@@ -95,10 +97,10 @@ module _ (s : ℤ) (s> : pos 0 <ℤ s) (v : List ℤ) (long : length v ≡ 8) (k
     unfolding turn
     odd-nearest = ap₂ (λ (y z : ℤ). set f j (y +ℤ z)) (at-map (round S) v j within) (top-reads top .way ∙ ap sign (left-at j (top-place top .within))) ∙ turned
 
-    odd-cost : cost S v (nearestD S v) ≡ cost S v f +ℤ S *ℤ mended s k true .cost
+    odd-cost : cost S v (nearestD S v) ≡ cost S v f +ℤ mended s k true .cost
     unfolding mended
     odd-cost = ap (cost S v) (sym turned) ∙ changed-cost S v j within
-        ∙ ap (λ (z : ℤ). cost S v f +ℤ z) (mend-step (natAbs (left S («at» v j))) s ∙ ap (λ (n : ℕ). S *ℤ (pos 2 *ℤ (s -ℤ pos n))) (sym (top-reads top .size ∙ ap natAbs (left-at j (top-place top .within)))))
+        ∙ ap (λ (z : ℤ). cost S v f +ℤ z) (mend-step (natAbs (left S («at» v j))) s ∙ ap (λ (n : ℕ). pos 4 *ℤ s *ℤ (s -ℤ pos n)) (sym (top-reads top .size ∙ ap natAbs (left-at j (top-place top .within)))))
 
   -- where it is even, nothing
   even-nearest : par (sumV f) ≡ 0 → f ≡ nearestD S v
@@ -108,7 +110,7 @@ module _ (s : ℤ) (s> : pos 0 <ℤ s) (v : List ℤ) (long : length v ≡ 8) (k
   odd-or n l h = elim (decLe n 0) [ yes k ↦ omega arith | no k ↦ absurd (h (omega arith)) ]
 
   abbrev Mends : Bool → Type 0
-  Mends b = (set f j («at» f j +ℤ step b) ≡ nearestD S v) × (cost S v (nearestD S v) ≡ cost S v f +ℤ S *ℤ mended s k b .cost)
+  Mends b = (set f j («at» f j +ℤ step b) ≡ nearestD S v) × (cost S v (nearestD S v) ≡ cost S v f +ℤ mended s k b .cost)
 
   mends : Mends (eqb (par (sumV f)) 1)
   unfolding mended
@@ -117,7 +119,7 @@ module _ (s : ℤ) (s> : pos 0 <ℤ s) (v : List ℤ) (long : length v ≡ 8) (k
       go : (b : Bool) → eqb (par (sumV f)) 1 ≡ b → Mends b
       go true e = let o : par (sumV f) ≡ 1 = eqb-true (par (sumV f)) 1 e in (odd-nearest o, odd-cost o)
       go false e = let n : f ≡ nearestD S v = even-nearest (odd-or (par (sumV f)) (omega arith) (eqb-false (par (sumV f)) 1 e)) in
-          (ap (set f j) (+ℤ-idr («at» f j)) ∙ set-getD f j (pos 0) ∙ n, ap (cost S v) (sym n) ∙ mend-none (cost S v f) S)
+          (ap (set f j) (+ℤ-idr («at» f j)) ∙ set-getD f j (pos 0) ∙ n, ap (cost S v) (sym n) ∙ sym (+ℤ-idr (cost S v f)))
 
   abbrev m : Mend
   m = mended s k (eqb (par (sumV f)) 1)
@@ -127,8 +129,8 @@ module _ (s : ℤ) (s> : pos 0 <ℤ s) (v : List ℤ) (long : length v ≡ 8) (k
   unfolding mended
   mend-nearest = (step (eqb (par (sumV f)) 1), step-twice (eqb (par (sumV f)) 1), mends .0)
 
-  pub mend-cost : cost S v (nearestD S v) ≡ cost S v f +ℤ S *ℤ m .cost
-  mend-cost = mends .1
+  pub mend-cost : cost S v (nearestD S v) ≡ dot (map (left S) v) (map (left S) v) +ℤ m .cost
+  mend-cost = mends .1 ∙ ap (λ (z : ℤ). z +ℤ m .cost) (cost-rounds S v)
 
   pub mend-first : pos 2 *ℤ «at» (nearestD S v) 0 ≡ pos 2 *ℤ «at» f 0 +ℤ first m
   unfolding mended

@@ -1,4 +1,4 @@
--- `key` is the key of x at the entry i: 128 x + i or 15 less that, both small, so that nothing wraps and no cast loses bits.
+-- `key` is the key of x at the entry i: 16 x + i or 15 less that, both small, so that nothing wraps and no cast loses bits.
 use native.Mathlib.Omega.{arith}
 use lib.IntN.{ℤ, pos, _+ℤ_, _-ℤ_, _*ℤ_}
 use lib.Signed.{_≤ℤ_, _<ℤ_, yes-nonNeg}
@@ -18,19 +18,19 @@ module _ (c : tie.Start) where
   i = pos (c .args .i)
 
   abbrev b : ℤ
-  b = pos 128 *ℤ x +ℤ i
+  b = pos 16 *ℤ x +ℤ i
 
   fi : SFits w64 i
   fi = fits-abs i (omega arith)
 
-  fx : SFits w64 (pos 128 *ℤ x)
-  fx = fits-abs _ (omega (arith, abs-mul (pos 128) x))
+  fx : SFits w64 (pos 16 *ℤ x)
+  fx = fits-abs _ (omega (arith, abs-mul (pos 16) x))
 
   fb : SFits w64 b
-  fb = fits-add (pos 128 *ℤ x) i (omega (arith, abs-mul (pos 128) x))
+  fb = fits-add (pos 16 *ℤ x) i (omega (arith, abs-mul (pos 16) x))
 
   minus : SFits w64 (pos 15 -ℤ b)
-  minus = fits-sub (pos 15) b (omega (arith, abs-add (pos 128 *ℤ x) i, abs-mul (pos 128) x))
+  minus = fits-sub (pos 15) b (omega (arith, abs-add (pos 16 *ℤ x) i, abs-mul (pos 16) x))
 
 low : (c : tie.Then1) → b (c .before) ≤ℤ pos 7
 low c = let s = c .before in leZ-true (b s) (pos 7) (simp (toZ-ofZ, s .fits .x, fi s, fx s, fb s) at (c .if1 .taken))

@@ -2,8 +2,7 @@
 use borrow.Author.Needs.{needs}
 use mathlib.Core.Path.{_≡_, sym, _∙_, ap, ap₂, subst}
 use mathlib.Core.Bool.{Bool, true, false, cond}
-use Prim.Native.Nat.{_+_, _*_, _-_, _/_, _≤_}
-use native.Mathlib.Nat.{div-le-self}
+use Prim.Native.Nat.{_+_, _*_, _-_}
 use native.Mathlib.Omega.{arith}
 use lib.Dec.{eqb}
 use lib.IntN.{ℤ, pos, natAbs, _+ℤ_}
@@ -35,30 +34,27 @@ module _ (b : tie.Start) where
   abbrev y : Mend
   y = oddMend s scan
 
-  abbrev rests : ℤ
-  rests = pos (scan .keys / 128)
-
   -- how large its numbers are
   fs : SFits w64 (scan .sum)
-  fs = fits-abs _ (omega (arith, b .pre .1 .sum))
+  fs = fits-abs _ (omega (arith, b .pre .1 .light .sum))
 
   fk : SFits w64 (pos (scan .keys))
-  fk = fits-abs _ (omega (arith, b .pre .1 .keys))
+  fk = fits-abs _ (omega (arith, b .pre .1 .light .keys))
 
   fsk : SFits w64 (scan .sum +ℤ pos (scan .keys))
-  fsk = fits-add (scan .sum) (pos (scan .keys)) (omega (arith, b .pre .1 .keys, b .pre .1 .sum))
+  fsk = fits-add (scan .sum) (pos (scan .keys)) (omega (arith, b .pre .1 .light .keys, b .pre .1 .light .sum))
 
-  rests≤ : scan .keys / 128 ≤ 4294967296
-  rests≤ = omega (arith, div-le-self (scan .keys) 128, b .pre .1 .keys)
+  fe : SFits w64 (scan .even)
+  fe = fits-abs _ (omega (arith, b .pre .1 .light .even))
 
-  fr : SFits w64 rests
-  fr = fits-abs rests (omega (arith, rests≤))
+  fo : SFits w64 (scan .odd)
+  fo = fits-abs _ (omega (arith, b .pre .1 .light .odd))
 
   x-small : Small x
   x-small = mended-small s (b .pre .0) (scan .most) (b .pre .1 .most) (eqb (par (scan .sum)) 1)
 
   y-small : Small y
-  y-small = mended-small s (b .pre .0) (128 * natAbs s + 15 - scan .least) (omega (arith, b .pre .0 .most)) (eqb (par (scan .sum +ℤ pos (scan .keys))) 1)
+  y-small = mended-small s (b .pre .0) (16 * natAbs s + 15 - scan .least) (omega (arith, b .pre .0 .most)) (eqb (par (scan .sum +ℤ pos (scan .keys))) 1)
 
 odd-requires : tie.Need-odd-requires
 odd-requires c κs = search needs
@@ -107,31 +103,28 @@ module _ (c : tie.After-mended2) where
   b₂ = b₁ even
 
   y-is : c .mended2 .result ≡ y b₂
-  y-is = (simp (toZ-ofZ, b₂ .fits .s) at (c .mended2 .ensures)) ∙ ap (mended (s b₂) (128 * natAbs (s b₂) + 15 - scan b₂ .least)) (simp (toZ-ofZ, fs b₂, fk b₂, fsk b₂) at (c .before .odd2 .ensures))
-
-cast-lead : tie.Need-cast-lead
-cast-lead c = fr (b₂ (c .before))
+  y-is = (simp (toZ-ofZ, b₂ .fits .s) at (c .mended2 .ensures)) ∙ ap (mended (s b₂) (16 * natAbs (s b₂) + 15 - scan b₂ .least)) (simp (toZ-ofZ, fs b₂, fk b₂, fsk b₂) at (c .before .odd2 .ensures))
 
 lead-requires : tie.Need-lead-requires
-lead-requires c κs = let m = c .before in let b = b₂ m in
-    simp (toZ-ofZ, b .fits .s, b .fits .way, fr b) (b .pre .0, rests≤ b, subst Small (sym (x-is (even m))) (x-small b), subst Small (sym (y-is m)) (y-small b), b .pre .2)
+lead-requires c κs = let m = c .before .before in let b = b₂ m in
+    simp (toZ-ofZ, b .fits .way, fe b, fo b) (b .pre .1 .light .even, b .pre .1 .light .odd, subst Small (sym (x-is (even m))) (x-small b), subst Small (sym (y-is m)) (y-small b), b .pre .2)
 
 -- the comparison
 module _ (c : tie.After-lead) where
   abbrev both : tie.After-mended2
-  both = c .before .before
+  both = c .before .before .before
 
   abbrev b₃ : tie.Start
   b₃ = b₂ both
 
-  v-is : c .lead .result ≡ lead (s b₃) (rests b₃) (x b₃) (y b₃) (b₃ .args .way)
-  v-is = (simp (toZ-ofZ, b₃ .fits .s, b₃ .fits .way, fr b₃) at (c .lead .ensures)) ∙ ap₂ (λ (x y : Mend). lead (s b₃) (rests b₃) x y (b₃ .args .way)) (x-is (even both)) (y-is both)
+  v-is : c .lead .result ≡ lead (scan b₃ .even) (scan b₃ .odd) (x b₃) (y b₃) (b₃ .args .way)
+  v-is = (simp (toZ-ofZ, b₃ .fits .way, fe b₃, fo b₃) at (c .lead .ensures)) ∙ ap₂ (λ (x y : Mend). lead (scan b₃ .even) (scan b₃ .odd) x y (b₃ .args .way)) (x-is (even both)) (y-is both)
 
   fv : SFits w64 (c .lead .result)
   fv = record { sfits = c .lead .ok }
 
 behind-requires : tie.Need-behind-requires
-behind-requires c κs = let b = b₃ c in simp (toZ-ofZ, fv c) (rw (v-is c) (lead-small (s b) (rests b) (x b) (y b) (b .pre .0) (rests≤ b) (x-small b) (y-small b) (b .args .way)))
+behind-requires c κs = let b = b₃ c in simp (toZ-ofZ, fv c) (rw (v-is c) (lead-small (scan b .even) (scan b .odd) (x b) (y b) (b .pre .1 .light .even) (b .pre .1 .light .odd) (x-small b) (y-small b) (b .args .way)))
 
 -- the choice by its sign
 module _ (c : tie.After-behind) where
@@ -170,7 +163,6 @@ chosen-spec =
     add-odd
     odd-requires-2
     mended-requires-2
-    cast-lead
     lead-requires
     behind-requires
     returns

@@ -37,7 +37,7 @@ module _ (b : tie.Start) where
   A = map (left (pos 2 *ℤ s)) d
 
   abbrev C : Choice
-  C = chosen s (scanned 8 F A) (sign («at» A 0))
+  C = chosen s (scanned s 8 F A) (sign («at» A 0))
 
   F-sized : Sized 8 (2 ^ 32) F
   F-sized = rounds-sized s (b .pre .0) d (b .pre .1)
@@ -45,8 +45,8 @@ module _ (b : tie.Start) where
   A-sized : Sized 8 (natAbs s) A
   A-sized = lefts-sized s (b .pre .0) d (b .pre .1)
 
-  ranged : Ranged s (scanned 8 F A)
-  ranged = scan-ranged s F A (F-sized .small) (A-sized .small) (b .pre .0)
+  ranged : Ranged s (scanned s 8 F A)
+  ranged = scan-ranged s F A (b .pre .0) (F-sized .small) (A-sized .small)
 
   C-small : (natAbs (C .parity) ≤ 1) × (C .mend .place < 8) × (natAbs (C .mend .step) ≤ 2)
   C-small = chosen-small s (twice-pos s (b .pre .0 .least) .1) d (b .pre .1 .long) (b .pre .0) ranged
@@ -82,7 +82,7 @@ module _ (c : tie.After-rounds) where
   a-sized = subst (Sized 8 (2 ^ 14)) (sym a-is) (sized-more 8 (natAbs (s b₁)) (A b₁) (A-sized b₁) (2 ^ 14) (omega (arith, b₁ .pre .0 .most)))
 
 scanned-requires : tie.Need-scanned-requires
-scanned-requires c κs = let r = c .before .before in (f-sized r, a-sized r)
+scanned-requires c κs = let r = c .before .before in simp (toZ-ofZ, b₁ r .fits .s) (f-sized r, a-sized r, b₁ r .pre .0)
 
 module _ (c : tie.After-scanned) where
   abbrev made : tie.After-rounds
@@ -91,8 +91,8 @@ module _ (c : tie.After-scanned) where
   abbrev b₂ : tie.Start
   b₂ = b₁ made
 
-  scan-is : c .scanned .result ≡ scanned 8 (F b₂) (A b₂)
-  scan-is = c .scanned .ensures ∙ ap₂ (scanned 8) (f-is made) (a-is made)
+  scan-is : c .scanned .result ≡ scanned (s b₂) 8 (F b₂) (A b₂)
+  scan-is = (simp (toZ-ofZ, b₂ .fits .s) at (c .scanned .ensures)) ∙ ap₂ (scanned (s b₂) 8) (f-is made) (a-is made)
 
 array-copy-out-sign : tie.Need-array-copy-out-sign
 array-copy-out-sign c = omega arith
