@@ -68,11 +68,8 @@ fn best_of(
     while i < count {
         let at = n * i;
         let end = at + n;
-        best = crate::better(
-            best,
-            i,
-            record_total(t, entries, steps, x, &store[at..end], q, m, k),
-        );
+        let z = record_total(t, entries, steps, x, &store[at..end], q, m, k);
+        best = crate::better(best, i, z);
         i = i + 1;
     }
     best

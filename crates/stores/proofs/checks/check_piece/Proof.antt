@@ -3,7 +3,6 @@ use mathlib.Core.Path.{_≡_, sym, _∙_, ap}
 use mathlib.Core.List.{List}
 use Prim.Native.Nat.{ℕ, _+_, _-_}
 use native.Mathlib.Omega.{arith}
-use borrow.Author.Needs.{needs}
 use lib.ListN.{take, length-take}
 use lib.Seq.{take-all}
 use Rattle.refusals.specs.declared.Verdict.{Verdict}
@@ -17,13 +16,13 @@ module _ (s : tie.Start) where
   checked f = let a = s .args in checkCode (a .steps) (a .q) (a .m) (a .k) (a .k) (a .«at») (a .«at» + 4) f
 
 sub-check-code : tie.Need-sub-check-code
-sub-check-code c = search needs
+sub-check-code c = omega arith
 
 part-check-code-start : tie.Need-part-check-code-start
-part-check-code-start c = search needs
+part-check-code-start c = omega arith
 
 part-check-code-end : tie.Need-part-check-code-end
-part-check-code-end c = search needs
+part-check-code-end c = omega arith
 
 add-check-code : tie.Need-add-check-code
 add-check-code c = omega (arith, c .before .before .before .pre .1)

@@ -1,5 +1,4 @@
 -- `check_records` walks the store: what is left of it gives the same verdict as all, until a record is refused.
-use borrow.Author.Needs.{needs}
 use mathlib.Core.Path.{_≡_, refl, sym, _∙_, ap, ap₂}
 use mathlib.Core.List.{List, [], _∷_}
 use Prim.Native.Nat.{ℕ, _+_, _*_, _-_, _<_, _≤_}
@@ -67,25 +66,25 @@ loop-holds : tie.Need-loop-holds Inv-loop μ-loop
 loop-holds c = refl
 
 sub-check-piece : tie.Need-sub-check-piece Inv-loop μ-loop
-sub-check-piece c = search needs
+sub-check-piece c = omega arith
 
 part-check-piece-start : tie.Need-part-check-piece-start Inv-loop μ-loop
-part-check-piece-start c = search needs
+part-check-piece-start c = omega arith
 
 part-check-piece-end : tie.Need-part-check-piece-end Inv-loop μ-loop
-part-check-piece-end c = search needs
+part-check-piece-end c = omega arith
 
 check-piece-requires : tie.Need-check-piece-requires Inv-loop μ-loop
 check-piece-requires c κs = let l = c .before in (s l .pre .0, simp (length-take, length-drop) (omega (arith, inside l, s l .good)))
 
 enum-known-r : tie.Need-enum-known-r Inv-loop μ-loop
-enum-known-r c = search needs
+enum-known-r c = c .match .keys1
 
 returns : tie.Need-returns Inv-loop μ-loop
 returns c = let k = c .before .before .before in sym (decided k _ (c .before .r .given .1))
 
 enum-told : tie.Need-enum-told Inv-loop μ-loop
-enum-told c = search needs
+enum-told c = c .match .keys2
 
 add-at : tie.Need-add-at Inv-loop μ-loop
 add-at c = let l = c .before .before .before .before in omega (arith, inside l, n-is l, n-small l, s l .good)

@@ -3,7 +3,6 @@ use mathlib.Core.Path.{ap}
 use Prim.Native.Nat.{ℕ, _+_, _*_, _≤_}
 use native.Mathlib.Nat.{mul-le-mul}
 use native.Mathlib.Omega.{arith}
-use borrow.Author.Needs.{needs}
 use Rattle.stores.proofs.checks.code_length.Statement.{statement}
 use Rattle.stores.proofs.checks.code_length.Tie as tie
 
@@ -12,7 +11,7 @@ small : (c : tie.After-block-size) → let s = c .before in c .block-size .resul
 small c = let s = c .before in let n : c .block-size .result ≤ 2049 = omega (arith, c .block-size .ensures, s .pre .0) in mul-le-mul n (s .pre .1)
 
 block-size-requires : tie.Need-block-size-requires
-block-size-requires c κs = search needs
+block-size-requires c κs = c .pre .0
 
 mul-result : tie.Need-mul-result
 mul-result c = omega (arith, small c)

@@ -1,6 +1,6 @@
 -- Where q is 2 the table is lent, and else nothing that is read.
 use borrow.Author.Needs.{needs}
-use mathlib.Core.Path.{sym, _∙_, ap}
+use mathlib.Core.Path.{refl, sym, _∙_, ap}
 use lib.IntN.{ℤ, pos, natAbs}
 use mir.Syntax.{w64}
 use mir.Val.{ofZ}
@@ -17,16 +17,16 @@ module _ (s : tie.Start) where
   best z = bestIn (natAbs z) (s .args .m) (s .args .steps .now) (s .args .x .now) (s .args .k) (s .args .store .now)
 
 layer-points-requires : tie.Need-layer-points-requires
-layer-points-requires c κs = search needs
+layer-points-requires c κs = tt
 
 slice-aggregate-best-of : tie.Need-slice-aggregate-best-of
 slice-aggregate-best-of c = search needs
 
 best-of-requires : tie.Need-best-of-requires
-best-of-requires c κs = search needs
+best-of-requires c κs = let p = c .before in let s = p .before .before .before in simp (toZ-ofZ, s .fits .q) ((λ h. p .layer-points .ensures), s .pre .0, s .pre .1, s .pre .2, s .pre .3, s .pre .4)
 
 slice-aggregate-best-of-2 : tie.Need-slice-aggregate-best-of-2
-slice-aggregate-best-of-2 c = search needs
+slice-aggregate-best-of-2 c = refl
 
 best-of-requires-2 : tie.Need-best-of-requires-2
 best-of-requires-2 c κs = let e = c .before in let s = e .before .before in

@@ -68,19 +68,19 @@ module _ (c : tie.After-word-at) where
   x-is = let z : n - 0 ≡ n = omega arith in ap (λ (k : ℕ). take k room) z ∙ ap (take n) room-is ∙ take-at (X t) _ n n-is
 
 slice-aggregate-take-fvecs-hour : tie.Need-slice-aggregate-take-fvecs-hour
-slice-aggregate-take-fvecs-hour c = search needs
+slice-aggregate-take-fvecs-hour c = refl
 
 take-fvecs-hour-requires : tie.Need-take-fvecs-hour-requires
-take-fvecs-hour-requires c κs = search needs
+take-fvecs-hour-requires c κs = omega arith
 
 enum-known-r : tie.Need-enum-known-r
-enum-known-r c = search needs
+enum-known-r c = c .match .keys1
 
 no-hour-requires : tie.Need-no-hour-requires
-no-hour-requires c κs = search needs
+no-hour-requires c κs = tt
 
 enum-told : tie.Need-enum-told
-enum-told c = search needs
+enum-told c = c .match .keys2
 
 word-at-requires : tie.Need-word-at-requires
 word-at-requires c κs = hour-framed (s c .args .s) (steps c) (b c) (accepted c) .there
@@ -89,10 +89,10 @@ cast-n : tie.Need-cast-n
 cast-n c = search needs
 
 sub-search-units : tie.Need-sub-search-units
-sub-search-units c = search needs
+sub-search-units c = omega arith
 
 part-search-units-start : tie.Need-part-search-units-start
-part-search-units-start c = search needs
+part-search-units-start c = omega arith
 
 part-search-units-end : tie.Need-part-search-units-end
 part-search-units-end c = enough (c .before)

@@ -1,5 +1,4 @@
 -- `best_hour_units` answers what is refused of the hour, and else what the core answers on the units themselves.
-use borrow.Author.Needs.{needs}
 use mathlib.Core.Path.{_≡_, sym, _∙_, subst}
 use mathlib.Core.List.{List}
 use lib.IntN.{ℤ}
@@ -38,16 +37,16 @@ module _ (c : tie.After-enum-told) where
   same = units-taken 0 x (taken .readings)
 
 check-units-hour-requires : tie.Need-check-units-hour-requires
-check-units-hour-requires c κs = search needs
+check-units-hour-requires c κs = tt
 
 enum-known-r : tie.Need-enum-known-r
-enum-known-r c = search needs
+enum-known-r c = c .match .keys1
 
 no-hour-requires : tie.Need-no-hour-requires
-no-hour-requires c κs = search needs
+no-hour-requires c κs = tt
 
 enum-told : tie.Need-enum-told
-enum-told c = search needs
+enum-told c = c .match .keys2
 
 search-units-requires : tie.Need-search-units-requires
 search-units-requires c κs = (taken c .taken, subst UnitsTaken (same c) (taken c .units))

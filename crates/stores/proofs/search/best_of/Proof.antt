@@ -1,5 +1,4 @@
 -- `best_of` walks the records: after i of them `best` is the best of their scores.
-use borrow.Author.Needs.{needs}
 use mathlib.Core.Path.{_≡_, sym, _∙_, ap, ap₂, subst}
 use mathlib.Core.List.{List, map}
 use Prim.Native.Nat.{ℕ, _+_, _*_, _-_, _/_, _<_, _≤_}
@@ -139,7 +138,7 @@ record-total-requires-2 c κs = let l = c .before in let b = a l in let v = s b 
     simp (toZ-ofZ, s b .fits .q) (s b .pre .0, s b .pre .1, s b .pre .2, s b .pre .3, subst (RecordTaken (length (steps b)) (q b) (v .m) (v .k) (v .k)) (sym (record-is l)) (each b (i l) (within l)), s b .pre .5)
 
 better-requires : tie.Need-better-requires Inv-loop μ-loop
-better-requires c κs = search needs
+better-requires c κs = tt
 
 add-i : tie.Need-add-i Inv-loop μ-loop
 add-i c = let l = c .before .before .before in omega (arith, within l, few (a l), s (a l) .good)

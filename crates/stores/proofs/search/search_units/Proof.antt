@@ -1,5 +1,4 @@
 -- `search_units` answers the store's refusal, and else the best of its records, each of as many blocks as X.
-use borrow.Author.Needs.{needs}
 use mathlib.Core.Path.{_≡_, sym, _∙_, ap, ap₂, subst₂}
 use mathlib.Core.List.{List}
 use Prim.Native.Nat.{ℕ, _/_}
@@ -89,13 +88,13 @@ check-store-requires : tie.Need-check-store-requires
 check-store-requires c κs = let l = c .before in let s = l .before .before in (omega (arith, l .layers .ensures, s .pre .0 .allowed .m-most), whole-x s .few)
 
 enum-known-r : tie.Need-enum-known-r
-enum-known-r c = search needs
+enum-known-r c = c .match .keys1
 
 no-hour-requires : tie.Need-no-hour-requires
-no-hour-requires c κs = search needs
+no-hour-requires c κs = tt
 
 enum-told : tie.Need-enum-told
-enum-told c = search needs
+enum-told c = c .match .keys2
 
 base-requires : tie.Need-base-requires
 base-requires c κs = s (k (c .before)) .pre .0 .allowed
@@ -119,7 +118,7 @@ best-body-requires c κs = let a = t c in let w = whole-x (s a) in (
 )
 
 hour-found-requires : tie.Need-hour-found-requires
-hour-found-requires c κs = search needs
+hour-found-requires c κs = tt
 
 returns : tie.Need-returns
 returns c = let a = c .before .before .before .before in c .no-hour .ensures ∙ ap (λ (v : Verdict). found v (best a)) (sym (c .before .before .r .given .1) ∙ checked a)
