@@ -16,8 +16,7 @@ use Rattle.readings.specs.declared.Measured.the-variants as measured
 use Rattle.readings.specs.Words.{wordAt, measureAt}
 use Rattle.records.specs.Codes.{blocksIn, codeBlocks}
 use Rattle.records.specs.Laws.Frames.{Whole, blocks-whole}
-use Rattle.records.specs.Laws.Hours.{Sound, fvecs-count, fvecs-reading}
-use Rattle.records.specs.Laws.Theorems.{nan-missing}
+use Rattle.records.specs.Laws.Hours.{Sound, fvecs-count, fvecs-reading, word-missing}
 use Rattle.records.specs.Laws.Vectors.{AllUnits, first-missing, first-beyond}
 use Rattle.records.specs.Vectors.{Hour, fvecsHour, checkReadings, unitsTaken, blocksOf}
 use Rattle.refusals.specs.declared.settings.Settings.{Settings}
@@ -154,7 +153,7 @@ module _ (c : Settings) (h : Hour) (out : List ℤ) where
 pub nan-refused : (c : Settings) (r : List ℕ) (out : List ℤ) (i : ℕ) → queryTableAsked c (fvecsHour r) (length out) ≡ Accepted → i < wordAt r 0
     → ((j : ℕ) → j < i → (X : ℤ) × (measureAt r (4 + 4 * j) ≡ measured.Units X)) → nanBits binary32 (wordAt r (4 + 4 * i)) ≡ true → checkQueryTable c (fvecsHour r) (length out) ≡ Refused (Missing i)
 nan-refused c r out i asked h before e = let d : Measured = measured.Missing in
-    null-refused c (fvecsHour r) out asked i d (omega (arith, fvecs-count r)) (λ j k. (before j k .0, fvecs-reading r j d (omega arith) ∙ before j k .1)) (fvecs-reading r i d h ∙ nan-missing r i e)
+    null-refused c (fvecsHour r) out asked i d (omega (arith, fvecs-count r)) (λ j k. (before j k .0, fvecs-reading r j d (omega arith) ∙ before j k .1)) (fvecs-reading r i d h ∙ word-missing r i e)
 
 -- ---- scoring by it
 
