@@ -148,7 +148,7 @@ pub fn drawn_record(random: &mut Random, layout: Layout, blocks: usize, steps: u
     bvecs(&body)
 }
 
-/// A good record of so many blocks, each with the same digits in every layer, those of a layer point that is far from 0.
+/// A good record of so many blocks, each with the digits of one layer point that is far from 0 in every layer.
 pub fn great_record(random: &mut Random, layout: Layout, blocks: usize, steps: usize) -> Vec<u8> {
     let one_layer = Layout { layers: 1, ..layout };
     let square = |digits: &Vec<u8>| layer_point(layout.q, digits).iter().map(|l| l * l).sum::<i64>();
@@ -160,7 +160,7 @@ pub fn great_record(random: &mut Random, layout: Layout, blocks: usize, steps: u
     bvecs(&body)
 }
 
-/// The fvecs record of readings near 16384 or -16384, by the signs of a record's points, so that every product is positive.
+/// The fvecs record of readings near 16384 or -16384, of the signs of a record's points, so that no product is negative.
 pub fn great_query(random: &mut Random, layout: Layout, record: &[u8]) -> Vec<u8> {
     let points = record[4..].chunks(layout.block_bytes()).flat_map(|block| whole_point(layout, &block[1..]));
     let units: Vec<i32> = points.map(|e| (e.signum() * ((1 << 24) - random.between(0, 2))) as i32).collect();

@@ -6,7 +6,7 @@ use second::built::{bvecs, record};
 use second::lent::Entry;
 use second::random::Random;
 
-use super::faults::record_bytes;
+use super::faults::{block_bytes, record_bytes};
 use super::operations::{Asked, Operation, MOST_BLOCKS};
 use super::Group;
 
@@ -16,8 +16,7 @@ const MOST_BLOCK_BYTES: usize = 33;
 /// What a byte of a code record must be below: the list's length for a T, q for a digit.
 fn limit<R: Entry>(asked: &Asked<u8, R>, input: usize, place: usize) -> u8 {
     let in_record = place % record_bytes(&asked.inputs[input]);
-    let t = in_record >= 4 && (in_record - 4) % (8 * asked.settings.m as usize + 1) == 0;
-    if t {
+    if in_record >= 4 && (in_record - 4).is_multiple_of(block_bytes(asked)) {
         asked.list_of(input).len() as u8
     } else {
         asked.settings.q as u8
@@ -41,8 +40,8 @@ impl<R: Entry, A: Debug + PartialEq> Operation<u8, R, A> {
         self.any_bytes(group, random, rounds, input);
     }
 
-    /// Every dimension from 0 to past the greatest, those of other M and of K = 0 and 65 among them, before zeros enough, before
-    /// just as many, and before bytes that are wrong.
+    /// Every dimension from 0 to past the greatest, those of other M and of K = 0 and 65 among them, before zeros enough,
+    /// before just as many, and before bytes that are wrong.
     pub fn every_dimension(&self, group: &mut Group, random: &mut Random, input: usize, blocks: usize) {
         let longest = (MOST_BLOCKS + 1) * MOST_BLOCK_BYTES + 1;
         for layout in self.light_layouts() {
@@ -83,7 +82,7 @@ impl<R: Entry, A: Debug + PartialEq> Operation<u8, R, A> {
         }
     }
 
-    /// Records of so many blocks with one T at the list's length or past it, or one digit of q or more, at each place in turn.
+    /// Records of so many blocks with one T at the list's length or past it, or one digit of q or more, at each place.
     pub fn bad_bytes(&self, group: &mut Group, random: &mut Random, input: usize, blocks: usize) {
         for layout in self.light_layouts() {
             let good = (self.drawn)(random, layout, blocks);

@@ -48,9 +48,14 @@ pub fn cut_short<const INPUT: usize, R>(random: &mut Random, asked: &mut Asked<u
     asked.inputs[INPUT].truncate(length);
 }
 
+/// The dimension that a record starts with.
+fn dimension(record: &[u8]) -> usize {
+    u32::from_le_bytes(std::array::from_fn(|i| record[i])) as usize
+}
+
 /// Puts a pattern in the place of any reading.
 fn put_pattern<R>(random: &mut Random, asked: &mut Asked<u8, R>, pattern: u32) {
-    let start = 4 + 4 * random.place(asked.inputs[0].len() / 4 - 1);
+    let start = 4 + 4 * random.place(dimension(&asked.inputs[0]));
     asked.inputs[0][start..start + 4].copy_from_slice(&pattern.to_le_bytes());
 }
 
@@ -92,13 +97,13 @@ pub fn wrong_count<R>(random: &mut Random, asked: &mut Asked<i32, R>) {
 }
 
 /// The number of bytes of a block at the settings that are asked for.
-fn block_bytes<R>(asked: &Asked<u8, R>) -> usize {
+pub fn block_bytes<R>(asked: &Asked<u8, R>) -> usize {
     8 * asked.settings.m as usize + 1
 }
 
 /// The number of bytes of each code record of an input, by the first one's dimension.
 pub fn record_bytes(records: &[u8]) -> usize {
-    4 + u32::from_le_bytes(std::array::from_fn(|i| records[i])) as usize
+    4 + dimension(records)
 }
 
 /// Where any code record of an input starts.
@@ -129,11 +134,10 @@ pub fn bad_t<const INPUT: usize, R: Entry>(random: &mut Random, asked: &mut Aske
 /// Any code record of an input with one block more, or with one block less.
 pub fn other_count<const INPUT: usize, R>(random: &mut Random, asked: &mut Asked<u8, R>) {
     let (start, record) = (any_record(random, asked, INPUT), record_bytes(&asked.inputs[INPUT]));
-    let block = block_bytes(asked);
-    let least = if record - 4 > block { record - 4 - block } else { record - 4 + block };
-    let length = random.pick(&[least, record - 4 + block]);
+    let (length, block) = (record - 4, block_bytes(asked));
+    let less = if length > block { length - block } else { length + block };
     let mut body = asked.inputs[INPUT][start + 4..start + record].to_vec();
-    body.resize(length, 0);
+    body.resize(random.pick(&[less, length + block]), 0);
     asked.inputs[INPUT].splice(start..start + record, bvecs(&body));
 }
 

@@ -10,11 +10,11 @@ use super::operations::Operation;
 use super::Group;
 
 impl<I: Entry, R: Entry, A: Debug + PartialEq> Operation<I, R, A> {
-    /// What is accepted, of each K at every setting; where there is a query table, of each K past 16 at every q.
+    /// What is accepted, of each K at every setting; where there is a query table, K past 16 come with one M each.
     pub fn every_count(&self, group: &mut Group, seed: u64, rounds: u64) {
         let mut random = Random::new(seed);
         for layout in self.layouts().repeat(rounds as usize) {
-            let drawn = |blocks: &usize| self.greatest_q != 4 || *blocks <= 16 || (blocks + layout.layers) % 4 == 0;
+            let drawn = |k: &usize| self.greatest_q != 4 || *k <= 16 || (k + layout.layers).is_multiple_of(4);
             for blocks in (1..=self.most_blocks(layout)).filter(drawn) {
                 self.compare(group, &(self.drawn)(&mut random, layout, blocks));
             }

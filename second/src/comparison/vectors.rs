@@ -63,8 +63,8 @@ impl<R: Entry, A: Debug + PartialEq> Operation<u8, R, A> {
         self.several_bad_readings(group, random, rounds);
     }
 
-    /// Every dimension from 0 to past the greatest and some far ones, before 530 readings, before as many zeros as it says or fewer
-    /// by 1, and before readings that are all missing.
+    /// Every dimension from 0 to past the greatest and some far ones, before 530 zeros, before as many as it says, before
+    /// fewer by 1, and before readings that are all missing.
     pub fn every_reading_count(&self, group: &mut Group, random: &mut Random, blocks: usize) {
         let far = [576, 1_024, 1_032, 65_536 + 8, 1 << 24, 1 << 31, (1 << 31) + 8, u32::MAX - 7, u32::MAX];
         for layout in self.some_layouts() {
@@ -95,8 +95,8 @@ impl<R: Entry, A: Debug + PartialEq> Operation<u8, R, A> {
         for layout in self.layouts() {
             let blocks = 1 + random.place(2);
             let mut asked = (self.drawn)(random, layout, blocks);
-            let longer = [&asked.inputs[0][..], &[0xff; 9]].concat();
-            for length in 0..=longer.len() {
+            let (whole, longer) = (asked.inputs[0].len(), [&asked.inputs[0][..], &[0xff; 40]].concat());
+            for length in (0..=whole + 5).chain([whole + 32, whole + 40]) {
                 asked.inputs[0] = longer[..length].to_vec();
                 self.compare(group, &asked);
             }

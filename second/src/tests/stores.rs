@@ -6,7 +6,7 @@ use crate::records::Vector;
 use crate::refusals::Answer;
 use crate::stores::{best_hour, best_hour_with_table, Hour};
 
-/// The best hour at q 2, M 1 and these steps, for one reading of so many units, of a store of blocks of G's digits with these T.
+/// The best hour at q 2, M 1 and these steps for one reading of x units, in a store of block G's digits with these T.
 fn searched(x: i32, steps: &[i32], store: &[u8]) -> Answer<Hour> {
     let records: Vec<u8> = store.iter().flat_map(|&t| bvecs(&[t, 0, 1, 0, 0, 0, 0, 0, 0])).collect();
     let (units, mut table) = (eight(&[x]), [0; 256]);

@@ -1,4 +1,4 @@
-//! The library alone: what the scores of two records, of their blocks and of decoded readings have to do with each other.
+//! The library alone: how the scores of two records, of their blocks and of decoded readings go together.
 
 use second::built::bvecs;
 use second::drawn::{allowed_layouts, drawn_query, drawn_record, drawn_steps, lent};

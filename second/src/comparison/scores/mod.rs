@@ -46,9 +46,10 @@ pub fn drawn_pair<R: Entry>(random: &mut Random, layout: Layout, blocks: usize, 
     Asked::lending(lent(layout), steps.each_ref().map(Vec::as_slice), records.each_ref().map(Vec::as_slice), table)
 }
 
-/// A code record, as often as not with a few bytes past its end, which are good for nothing.
+/// A code record, as often as not with bytes past its end: a few that are wrong, or a block more.
 pub fn drawn_longer_record(random: &mut Random, layout: Layout, blocks: usize, steps: &[i32]) -> Vec<u8> {
     let mut record = drawn_record(random, layout, blocks, steps.len());
-    record.extend(random.pick(&[&[][..], &[], &[255], &[0, 99, 255, 1]]));
+    let block = &drawn_record(random, layout, 1, steps.len())[4..];
+    record.extend(random.pick(&[&[][..], &[], &[0, 99, 255, 1], block]));
     record
 }

@@ -34,7 +34,7 @@ const FAULTS: [Fault<u8, u8>; 7] = [
     bad_settings,
 ];
 
-/// Readings near their limit, of the signs of points that are far from 0 and of the opposite signs, with steps at their limit.
+/// Readings near their limit, of the signs of points that are far from 0 and of the opposite ones, with the greatest steps.
 fn great_readings(group: &mut Group, amount: u64) {
     let (mut random, steps) = (Random::new(528), [1023, 1024]);
     for layout in QUERY_SCORE.layouts().repeat(amount as usize) {

@@ -58,8 +58,8 @@ fn put_dimension(store: &mut [u8], start: usize, dimension: u32) {
     store[start..start + 4].copy_from_slice(&dimension.to_le_bytes());
 }
 
-/// Stores in which one record has a dimension with a bit turned over, of K = 0, of one byte more or less, of another K or M, or one
-/// that takes in the next record.
+/// Stores in which one record has a dimension with a bit turned over, of K = 0, of one byte more or less, of another K or
+/// M, or one that takes in the next record.
 fn wrong_dimensions<R: Entry>(group: &mut Group, seed: u64, operation: &Search<R>) {
     let mut random = Random::new(seed);
     for layout in operation.layouts() {

@@ -103,7 +103,7 @@ fn signed_scores<R: Entry>(group: &mut Group, seed: u64, rounds: u64, operation:
     }
 }
 
-/// The greatest readings but for a last block of one unit, against records that differ in that block's layer 0 alone, at step 1.
+/// The greatest readings but for one unit in the last block, against records that differ in that block's layer 0 alone.
 fn close_scores<R: Entry>(group: &mut Group, seed: u64, rounds: u64, operation: &Search<R>) {
     let mut random = Random::new(seed);
     for layout in operation.layouts().repeat(rounds as usize) {

@@ -25,11 +25,9 @@ fn greatest_score(group: &mut Group, amount: u64) {
         let asked = (BEST_HOUR.drawn)(&mut random, layout, blocks);
         let (settings, steps, [query, store]) = (asked.settings, &asked.steps[0], &asked.inputs);
         let score = |record| boundary::query_score(settings, steps, query, record).value;
-        let hours = (0..).zip(store.chunks(record_bytes(store)).map(score));
-        let best =
-            hours
-                .map(|(hour, score)| Hour { hour, score })
-                .reduce(|best, next| if next.score > best.score { next } else { best });
+        let scores = (0..).zip(store.chunks(record_bytes(store)).map(score));
+        let hours = scores.map(|(hour, score)| Hour { hour, score });
+        let best = hours.reduce(|best, next| if next.score > best.score { next } else { best });
         let expected = HourAnswer::from(Ok(best.expect("a store has records")));
         group.compare(&asked, expected, boundary::best_hour(settings, steps, query, store));
     }

@@ -24,7 +24,7 @@ pub fn block_entries(layout: Layout) -> usize {
     query_entries(layout, 1)
 }
 
-/// Compares an operation with tables of any contents and of lengths about what it needs, parts of so many entries more or less.
+/// Compares an operation with tables of any contents, of lengths about what it needs and of a part more or less.
 pub fn compare_tables<R: Entry, A: Debug + PartialEq>(
     group: &mut Group,
     seed: u64,

@@ -69,7 +69,7 @@ const PAIR_FAULTS: [Fault<u8, i8>; 9] = [
 const QUERY_FAULTS: [Fault<u8, i32>; 6] =
     [bad_byte::<0, _>, short_room, other_frame::<0, _>, bad_steps::<0, _, _>, other_q::<4, _, _>, bad_settings];
 
-/// Tables whose entries are all the least or all the greatest, with step lists at their limit, for one block and for the most.
+/// Tables whose entries are all the least or all the greatest, with the greatest steps, for one block and for the most.
 fn extreme_entries<R: Entry>(group: &mut Group, seed: u64, rounds: u64, operation: &Operation<u8, R, ValueAnswer>) {
     let mut random = Random::new(seed);
     for layout in operation.layouts().repeat(rounds as usize) {
