@@ -1,13 +1,14 @@
 -- The numbers that the code computes for one coordinate: the reciprocal, its guess, the rounding, what is left.
-use mathlib.Core.Path.{_≡_, _∙_, ap}
-use Prim.Native.Nat.{ℕ, suc, _+_, _*_, _/_, _%_, _^_, _<_, _≤_}
-use native.Mathlib.Nat.{mul-le-mul, le-refl, div-add-mod, mod-lt}
+use mathlib.Core.Path.{_≡_, sym, _∙_, ap}
+use Prim.Native.Nat.{suc, _+_, _*_, _^_, _<_, _≤_}
+use native.Mathlib.Nat.{div-add-mod, mul-div-mul-left}
 use native.Mathlib.Omega.{arith}
-use lib.IntN.{ℤ, pos, negsuc, negℤ, natAbs, _+ℤ_, _-ℤ_, _*ℤ_}
+use lib.IntN.{ℤ, pos, negℤ, natAbs, _+ℤ_, _-ℤ_, _*ℤ_}
 use lib.Signed.{_≤ℤ_, _<ℤ_, shrZ}
-use Rattle.integers.specs.Floor.{floorDiv, floorMod}
+use Rattle.integers.specs.Floor.{reciprocal as whole-reciprocal, floorDiv}
 use Rattle.integers.specs.Laws.Difference.{D, abs-D, byD, ints, byD₂, byD₃}
-use Rattle.integers.specs.Laws.Floors.{floorMod-lt, floor-split, floorDiv-shr, byPos}
+use Rattle.integers.specs.Laws.Floors.{floorDiv-shr, byPos}
+use Rattle.integers.specs.Laws.Reciprocals.{guess as guess-at, guess-ok as guess-at-ok}
 use Rattle.integers.specs.Laws.Signed.{slack<, trichotomy}
 use Rattle.integers.specs.Laws.Sizes.{abs-add, abs-sub, abs-mul, abs-from, abs-times}
 use Rattle.lattice.specs.Laws.Rounds.{round-rest}
@@ -27,32 +28,16 @@ pub round-is : (S x c : ℤ) → pos 0 <ℤ S → negℤ S <ℤ (pos 2 *ℤ (x -
 round-is S x c S> l h = let r = round-rest S x S> in
     trichotomy c (round S x) (λ k. absurd (apart S S> x c (round S x) k h (r .0))) (λ e. e) (λ k. absurd (apart S S> x (round S x) c k (r .1) l))
 
--- the guess: y over m, by the reciprocal w of m, is right or one too low
-guess-up : (m w e ρ a : ℕ) → m * w + e ≡ 4294967296 → a * e ≤ 2147483648 * m → m * ρ ≤ m * 4294967295 → 0 < m
-    → (q : ℤ) → pos a *ℤ pos w -ℤ pos 2147483648 ≡ pos 4294967296 *ℤ q +ℤ pos ρ
-    → (pos 0 ≤ℤ (pos a -ℤ pos m *ℤ q)) × ((pos a -ℤ pos m *ℤ q) <ℤ pos (2 * m))
-guess-up m w e ρ a E h k m> = byD _ λ b b′. simp ints λ g. omega (arith, ap (λ (z : ℕ). m * z) g, ap (λ (z : ℕ). a * z) E)
+-- the guess at y over 2s: 2^31 over s is 2^32 over 2s
+twice-reciprocal : (s : ℤ) → pos 1 ≤ℤ s → reciprocal s ≡ whole-reciprocal (natAbs (pos 2 *ℤ s))
+twice-reciprocal = byPos _ λ n. sym (mul-div-mul-left {m = 2} 2147483648 (suc n) (omega arith))
 
-guess-down : (m w e ρ a : ℕ) → m * w + e ≡ 4294967296 → suc a * e ≤ 2147483648 * m → m * ρ ≤ m * 4294967295 → 0 < m
-    → (q : ℤ) → negsuc a *ℤ pos w -ℤ pos 2147483648 ≡ pos 4294967296 *ℤ q +ℤ pos ρ
-    → (pos 0 ≤ℤ (negsuc a -ℤ pos m *ℤ q)) × ((negsuc a -ℤ pos m *ℤ q) <ℤ pos (2 * m))
-guess-down m w e ρ a E h k m> = byD _ λ b b′. simp ints λ g. omega (arith, ap (λ (z : ℕ). m * z) g, ap (λ (z : ℕ). suc a * z) E)
-
-unfoldable pub guess : ℤ → ℤ → ℤ
-guess s y = floorDiv (y *ℤ pos (reciprocal s) -ℤ pos 2147483648) 4294967296
+abbrev guess : ℤ → ℤ → ℤ
+guess s y = guess-at (natAbs (pos 2 *ℤ s)) y
 
 guess-ok : (s : ℤ) → pos 1 ≤ℤ s → (y : ℤ) → natAbs y ≤ 2147483648
     → (pos 0 ≤ℤ (y -ℤ pos 2 *ℤ s *ℤ guess s y)) × ((y -ℤ pos 2 *ℤ s *ℤ guess s y) <ℤ (pos 2 *ℤ (pos 2 *ℤ s)))
-unfolding guess
-guess-ok = byPos _ λ n y. go n y
-  where
-    go : (n : ℕ) (y : ℤ) → natAbs y ≤ 2147483648 → (pos 0 ≤ℤ (y -ℤ pos (2 * suc n) *ℤ guess (pos (suc n)) y)) × ((y -ℤ pos (2 * suc n) *ℤ guess (pos (suc n)) y) <ℤ pos (2 * (2 * suc n)))
-    go n (pos a) h = let m : ℕ = 2 * suc n in let w : ℕ = 2147483648 / suc n in let z : ℤ = pos a *ℤ pos w -ℤ pos 2147483648 in
-        let l : 2147483648 % suc n < suc n = mod-lt 2147483648 (omega arith) in let r : floorMod z 4294967296 < 4294967296 = floorMod-lt z 4294967296 (omega arith) in
-        guess-up m w (2 * (2147483648 % suc n)) (floorMod z 4294967296) a (omega (arith, div-add-mod 2147483648 (suc n))) (mul-le-mul h (omega (arith, l))) (mul-le-mul (le-refl m) (omega (arith, r))) (omega arith) (floorDiv z 4294967296) (floor-split z 4294967296 (omega arith))
-    go n (negsuc a) h = let m : ℕ = 2 * suc n in let w : ℕ = 2147483648 / suc n in let z : ℤ = negsuc a *ℤ pos w -ℤ pos 2147483648 in
-        let l : 2147483648 % suc n < suc n = mod-lt 2147483648 (omega arith) in let r : floorMod z 4294967296 < 4294967296 = floorMod-lt z 4294967296 (omega arith) in
-        guess-down m w (2 * (2147483648 % suc n)) (floorMod z 4294967296) a (omega (arith, div-add-mod 2147483648 (suc n))) (mul-le-mul h (omega (arith, l))) (mul-le-mul (le-refl m) (omega (arith, r))) (omega arith) (floorDiv z 4294967296) (floor-split z 4294967296 (omega arith))
+guess-ok = byPos _ λ n y h. guess-at-ok (2 * suc n) (omega arith) y h
 
 -- the guess rounds x where it leaves at most s, and one more rounds it where it leaves more
 module _ (s x : ℤ) (s≥ : pos 1 ≤ℤ s) (small : natAbs (x +ℤ s -ℤ pos 1) ≤ 2147483648) where
@@ -108,8 +93,8 @@ module _ (s x w : ℤ) (h : Divisor s) (k : natAbs x ≤ 2 ^ 30) (e : w ≡ pos 
   y-small = omega (arith, abs-sub (x +ℤ s) (pos 1), abs-add x s, h .most)
 
   is-guess : codeQ ≡ guess s codeY
-  unfolding guess
-  is-guess = floorDiv-shr codeZ 4294967296 ∙ ap (λ (t : ℤ). floorDiv (codeY *ℤ t -ℤ pos 2147483648) 4294967296) e
+  unfolding guess-at
+  is-guess = floorDiv-shr codeZ 4294967296 ∙ ap (λ (t : ℤ). floorDiv (codeY *ℤ t -ℤ pos 2147483648) 4294967296) (e ∙ ap pos (twice-reciprocal s (h .least)))
 
   product-small : (y m z : ℤ) → pos 0 ≤ℤ (y -ℤ z) → (y -ℤ z) <ℤ (pos 2 *ℤ m) → natAbs z ≤ natAbs y + 2 * natAbs m
   product-small = byD₃ _ λ _ _ _ _ _ _. simp (ints, abs-D) (omega arith)
