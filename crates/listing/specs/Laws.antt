@@ -1,11 +1,4 @@
--- Proved facts of texts and listings.
-pub mod Choices
-pub mod Pieces
-pub mod Numbers
-pub mod Rooms
-pub mod Words
-pub mod Texts
-pub mod Asked
+-- Proved facts of listings.
 pub mod Decimal
 pub mod Lines
 pub mod Order

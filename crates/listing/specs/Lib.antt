@@ -1,5 +1,3 @@
--- The showing program's text and its listing. Definitions stand here; `Laws` holds what is proved of them.
-pub mod Text
+-- The showing program's listing. Definitions stand here; `Laws` holds what is proved of them.
 pub mod Listing
-pub mod Answers
 pub mod Laws

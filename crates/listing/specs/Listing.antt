@@ -19,7 +19,7 @@ use Rattle.refusals.specs.Verdicts.{rowOf, spotOf, unless}
 use Rattle.records.specs.Codes.{codeLength, stepOf, wholePoint}
 use Rattle.records.specs.Vectors.{unitsHour}
 use Rattle.encoding.specs.Encode.{checkEncode}
-use Rattle.listing.specs.Text.{bytes, newline, space, minus, lineOf, numbers, settingsIn, wellFormed}
+use Rattle.texts.specs.Text.{bytes, newline, space, minus, lineOf, numbers, settingsIn, wellFormed}
 
 -- ---- numbers
 

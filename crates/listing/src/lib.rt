@@ -1,6 +1,5 @@
 // The showing program's work: from the text that it reads to the text that it prints (01, The proved blocks).
 mod lines;
-mod text;
 
 ghost use mathlib.Core.Path.{_≡_};
 ghost use mathlib.Core.List.{_++_};
@@ -17,8 +16,8 @@ use refusals::Refusal;
 use refusals::Verdict;
 use refusals::settings;
 use refusals::settings::Settings;
-use text::Asked;
-use text::NUMBERS_MOST;
+use texts::Asked;
+use texts::NUMBERS_MOST;
 
 // The bytes of the record of one block of four layers.
 const CODE_MOST: usize = 37;
@@ -74,7 +73,7 @@ pub fn show(given: &[u8], out: &mut [u8]) -> usize
 {
     let mut steps: [i32; NUMBERS_MOST] = [0; NUMBERS_MOST];
     let mut x: [i32; NUMBERS_MOST] = [0; NUMBERS_MOST];
-    match text::read_text(given, &mut steps, &mut x) {
+    match texts::read_text(given, &mut steps, &mut x) {
         Asked::Malformed => put_refusal(Refusal::Record(0), out),
         Asked::Block(s, n) => show_block(s, &steps[0..n], &x[0..8], out),
     }

@@ -1,11 +1,11 @@
 -- What a loop over a list has done after i turns.
 use mathlib.Core.Path.{_≡_, refl, sym, _∙_, ap}
 use mathlib.Core.List.{List, [], _∷_, _++_, map, map-append}
-use Prim.Native.Nat.{ℕ, zero, suc, _+_, _<_, _≤_}
+use Prim.Native.Nat.{ℕ, zero, suc, _+_, _-_, _<_, _≤_}
 use native.Mathlib.Numerals.{add-one}
 use native.Mathlib.Nat.{suc-inj}
 use native.Mathlib.Omega.{arith}
-use lib.ListN.{length, getD, take, set, length-set}
+use lib.ListN.{length, getD, take, drop, set, length-set, length-drop}
 use lib.Seq.{take-suc, take-suc-set, take-all}
 
 -- a loop that fills r by f of each entry of a: after i turns the first i are right
@@ -31,6 +31,10 @@ module _ {A B : Type 0} (f : A → B) (n : ℕ) (a : List A) (long : length a �
   -- after the last turn
   pub filled-all : {i : ℕ} {r : List B} → n ≤ i → Filled f n a i r → r ≡ map f a
   filled-all {i} {r} h s = fill-done f a r i (omega arith) (omega (arith, s .long)) (s .same)
+
+-- what is lent from a to the end is all from a on
+pub rest-whole : {A : Type 0} (a : ℕ) (f : List A) → take (length f - a) (drop a f) ≡ drop a f
+rest-whole a f = take-all (length f - a) (drop a f) (simp length-drop (omega arith))
 
 -- ---- a list by its entries
 

@@ -15,9 +15,9 @@ use Rattle.layers.specs.E8.{decode8}
 use Rattle.records.specs.Codes.{stepOf, wholePoint}
 use Rattle.records.specs.Laws.Parts.{rest-whole}
 use Rattle.listing.specs.Laws.Lengths.{Small, step-small, point-small, stepLine, layersLines, pointLine, listing-is, listing-long, listing-most}
-use Rattle.listing.specs.Laws.Rooms.{put-next}
+use Rattle.texts.specs.Laws.Rooms.{put-next}
 use Rattle.listing.specs.Listing.{line, layerLines}
-use Rattle.listing.specs.Text.{bytes}
+use Rattle.texts.specs.Text.{bytes}
 use Rattle.listing.proofs.put_block.Statement.{statement}
 use Rattle.listing.proofs.put_block.Tie as tie
 

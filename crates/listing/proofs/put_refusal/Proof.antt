@@ -14,7 +14,7 @@ use Rattle.refusals.specs.declared.Refusal.{Refusal}
 use Rattle.refusals.specs.Verdicts.{rowOf, spotOf}
 use Rattle.listing.specs.Laws.Lengths.{Small, row-most, refusal-small, refusal-most}
 use Rattle.listing.specs.Listing.{line}
-use Rattle.listing.specs.Text.{bytes}
+use Rattle.texts.specs.Text.{bytes}
 use Rattle.listing.proofs.put_refusal.Statement.{statement}
 use Rattle.listing.proofs.put_refusal.Tie as tie
 

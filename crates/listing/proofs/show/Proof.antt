@@ -10,13 +10,13 @@ use lib.ListN.{length, take}
 use lib.Seq.{sets}
 use Rattle.integers.specs.Vectors.{zeros}
 use Rattle.refusals.specs.declared.settings.Settings.{Settings}
-use Rattle.listing.specs.Laws.Asked.{told-block, told-malformed}
+use Rattle.texts.specs.Laws.Asked.{told-block, told-malformed}
 use Rattle.listing.specs.Laws.Lengths.{shown-most}
 use Rattle.listing.specs.Laws.Order.{text-malformed, text-formed}
-use Rattle.listing.specs.Laws.Rooms.{sets-front, take-front}
-use Rattle.listing.specs.Laws.Texts.{formed-counts}
+use Rattle.texts.specs.Laws.Rooms.{sets-front, take-front}
+use Rattle.texts.specs.Laws.Texts.{formed-counts}
 use Rattle.listing.specs.Listing.{blockShown, shown}
-use Rattle.listing.specs.Text.{lineOf, numbers, settingsIn, wellFormed}
+use Rattle.texts.specs.Text.{lineOf, numbers, settingsIn, wellFormed}
 use Rattle.listing.proofs.show.Statement.{statement}
 use Rattle.listing.proofs.show.Tie as tie
 

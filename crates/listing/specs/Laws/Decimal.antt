@@ -13,9 +13,9 @@ use lib.ListN.{length, drop, length-append}
 use mir.Syntax.{w32}
 use mir.Val.{SFits}
 use Rattle.integers.specs.Laws.Tests.{and-true}
-use Rattle.listing.specs.Laws.Numbers.{digit-range}
+use Rattle.texts.specs.Laws.Numbers.{digit-range}
 use Rattle.listing.specs.Listing.{digitByte, decimalIn, decimal, written}
-use Rattle.listing.specs.Text.{minus, isDigit, allDigits, valueAfter, hasMinus, sizeMost, isNumber, numberIn}
+use Rattle.texts.specs.Text.{minus, isDigit, allDigits, valueAfter, hasMinus, sizeMost, isNumber, numberIn}
 
 -- ---- one digit, or more
 

@@ -21,9 +21,9 @@ use Rattle.refusals.specs.Verdicts.{rowOf, spotOf, unless}
 use Rattle.records.specs.Codes.{Coder, IsBlock, stepOf, wholePoint}
 use Rattle.listing.specs.Laws.Decimal.{decimal-long}
 use Rattle.listing.specs.Laws.Order.{shown-place, shown-taken, shown-block}
-use Rattle.listing.specs.Laws.Texts.{formed-counts}
+use Rattle.texts.specs.Laws.Texts.{formed-counts}
 use Rattle.listing.specs.Listing.{written, fields, line, layerLine, layerLines, blockListing, refusalLine, printed, checkShown, blockShown, shown, roomMost}
-use Rattle.listing.specs.Text.{bytes, lineOf, numbers, settingsIn, wellFormed}
+use Rattle.texts.specs.Text.{bytes, lineOf, numbers, settingsIn, wellFormed}
 
 -- every number of a list is at most 2^32 in magnitude
 abbrev pub Small : List ℤ → Type 0

@@ -13,9 +13,9 @@ use Rattle.integers.specs.Laws.Linear.{Z}
 use Rattle.integers.specs.Vectors.{«at», Bounded}
 use Rattle.layers.specs.Digits.{cut}
 use Rattle.records.specs.Laws.Parts.{cut-next}
-use Rattle.listing.specs.Laws.Rooms.{put-next}
+use Rattle.texts.specs.Laws.Rooms.{put-next}
 use Rattle.listing.specs.Listing.{decimal, written, fields, layerLine, layerLines}
-use Rattle.listing.specs.Text.{space, minus}
+use Rattle.texts.specs.Text.{space, minus}
 
 -- ---- a number by its sign
 

@@ -37,7 +37,7 @@ use Rattle.records.specs.Vectors.{Hour, unitsHour, checkReadings, unitsTaken, b
 use Rattle.encoding.specs.Encode.{checkFits, codeBytes, codeRecord, encodeAsked, checkEncode, encoded, encodedRoom}
 use Rattle.encoding.specs.Laws.Encode.{fits-none}
 use Rattle.listing.specs.Listing.{blockListing, refusalLine, printed, checkShown, blockShown, shown}
-use Rattle.listing.specs.Text.{lineOf, numbers, settingsIn, wellFormed}
+use Rattle.texts.specs.Text.{lineOf, numbers, settingsIn, wellFormed}
 
 -- the frame passes, and so does the room where the settings do
 in-order : (a b f g r k l : Verdict) → f ≡ Accepted → (a ≡ Accepted → g ≡ Accepted) → (r ≡ Accepted → k ≡ l) → firstRefusal (firstRefusal (a ∷ b ∷ f ∷ g ∷ []) ∷ r ∷ k ∷ []) ≡ firstRefusal (a ∷ b ∷ r ∷ l ∷ [])

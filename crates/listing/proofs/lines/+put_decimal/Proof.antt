@@ -7,7 +7,7 @@ use native.Mathlib.Omega.{arith}
 use lib.ListN.{length, set}
 use lib.Seq.{sets, length-sets}
 use Rattle.listing.specs.Laws.Decimal.{decimal-one, decimal-more, decimal-longer}
-use Rattle.listing.specs.Laws.Rooms.{sets-more}
+use Rattle.texts.specs.Laws.Rooms.{sets-more}
 use Rattle.listing.specs.Listing.{digitByte, decimal}
 use borrow.Fn.Kinds.{In}
 use borrow.Fn.PlainCycle.{Measures, is, falls, and}

@@ -12,7 +12,7 @@ use mir.Syntax.{w64}
 use mir.Val.{toZ}
 use mir.Facts.{toZ-pos}
 use Rattle.integers.specs.Vectors.{zeros}
-use Rattle.listing.specs.Laws.Rooms.{sets-more, sets-front}
+use Rattle.texts.specs.Laws.Rooms.{sets-more, sets-front}
 use Rattle.listing.proofs.lines.layer_numbers.Statement.{statement}
 use Rattle.listing.proofs.lines.layer_numbers.Tie as tie
 

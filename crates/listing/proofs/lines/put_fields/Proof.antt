@@ -14,7 +14,7 @@ use mir.Facts.{toZ-ofZ}
 use Rattle.integers.specs.Vectors.{«at»}
 use Rattle.listing.specs.Laws.Lines.{fields-long, fields-next}
 use Rattle.listing.specs.Listing.{written, fields}
-use Rattle.listing.specs.Text.{space}
+use Rattle.texts.specs.Text.{space}
 use Rattle.listing.proofs.lines.put_fields.Statement.{statement}
 use Rattle.listing.proofs.lines.put_fields.Tie as tie
 

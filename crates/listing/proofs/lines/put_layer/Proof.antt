@@ -9,7 +9,7 @@ use lib.Seq.{sets}
 use Rattle.integers.specs.Vectors.{Bounded}
 use Rattle.listing.specs.Laws.Lines.{layer-bounded}
 use Rattle.listing.specs.Listing.{line}
-use Rattle.listing.specs.Text.{bytes}
+use Rattle.texts.specs.Text.{bytes}
 use Rattle.listing.proofs.lines.put_layer.Statement.{statement}
 use Rattle.listing.proofs.lines.put_layer.Tie as tie
 

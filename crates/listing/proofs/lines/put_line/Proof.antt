@@ -6,9 +6,9 @@ use native.Mathlib.Omega.{arith}
 use lib.IntN.{ℤ}
 use lib.ListN.{length, length-set, length-append}
 use lib.Seq.{length-sets}
-use Rattle.listing.specs.Laws.Rooms.{put-next}
+use Rattle.texts.specs.Laws.Rooms.{put-next}
 use Rattle.listing.specs.Listing.{fields, line}
-use Rattle.listing.specs.Text.{newline}
+use Rattle.texts.specs.Text.{newline}
 use Rattle.listing.proofs.lines.put_line.Statement.{statement}
 use Rattle.listing.proofs.lines.put_line.Tie as tie
 

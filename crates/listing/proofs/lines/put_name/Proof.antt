@@ -7,7 +7,7 @@ use native.Mathlib.Numerals.{add-one}
 use native.Mathlib.Omega.{arith}
 use lib.ListN.{length, getD, take, set, length-set}
 use lib.Seq.{sets, take-suc, take-all, length-take-le}
-use Rattle.listing.specs.Laws.Rooms.{sets-more}
+use Rattle.texts.specs.Laws.Rooms.{sets-more}
 use Rattle.listing.proofs.lines.put_name.Statement.{statement}
 use Rattle.listing.proofs.lines.put_name.Tie as tie
 
