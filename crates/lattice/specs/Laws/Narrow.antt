@@ -1,8 +1,8 @@
 -- The nearest point in narrow numbers: three comparisons round, every number is small, and what is left is d less s times the nearest point.
 use mathlib.Core.Path.{_≡_, refl, sym, _∙_, ap, subst}
 use mathlib.Core.Bool.{Bool, true, false, cond}
-use mathlib.Core.List.{List, map}
-use Prim.Native.Nat.{ℕ, _+_, _*_, _/_, _^_, _<_, _≤_}
+use mathlib.Core.List.{List, [], _∷_, map}
+use Prim.Native.Nat.{ℕ, zero, suc, _+_, _*_, _/_, _<_, _≤_}
 use native.Mathlib.Nat.{zero-add, mul-le-mul}
 use native.Mathlib.Omega.{arith}
 use borrow.Author.Tests.{eqb-true, eqb-false}
@@ -16,14 +16,15 @@ use Rattle.integers.specs.Laws.Loops.{range-at}
 use Rattle.integers.specs.Laws.Sizes.{abs-sub, abs-mul, abs-mul-le, ltZ-true, ltZ-false}
 use Rattle.integers.specs.Laws.Sums.{entries, lengths, at-map, sized-map}
 use Rattle.integers.specs.Vectors.{«at», subV, scaleV, Bounded, Sized}
+use Rattle.lattice.specs.declared.half.Mend.{Mend}
 use Rattle.lattice.specs.declared.point.Choice.{Choice}
 use Rattle.lattice.specs.Computed.{nearestPoint}
 use Rattle.lattice.specs.Laws.Choice.{mended-bound, nearestPoint-code}
 use Rattle.lattice.specs.Laws.Keys.{key-small}
-use Rattle.lattice.specs.Laws.Reciprocals.{twice-pos, round-is}
+use Rattle.lattice.specs.Laws.Reciprocals.{twice-pos, round-is, left-small}
 use Rattle.lattice.specs.Laws.Scans.{keys-bound, sum-bounded, even-bound, odd-bound, scan-most, scan-least}
 use Rattle.lattice.specs.Narrow.{Few, Near, Narrow, Slim, Slender, Slight, brief, leftAt, leftBy}
-use Rattle.lattice.specs.Pass.{scanned, mended, chosen, spreadBy}
+use Rattle.lattice.specs.Pass.{scanned, mended, choose, chosen, spreadBy}
 use Rattle.lattice.specs.Rounding.{round, left, sign, Divisor}
 
 pub few-divisor : {s : ℤ} → Few s → Divisor s
@@ -72,6 +73,38 @@ round-three s x h k =
 
 -- ---- the sizes
 
+-- what holds of every entry made holds of the vector
+map-bound : (f : ℤ → ℤ) (B : ℕ) (a : List ℤ) → ((i : ℕ) → i < length a → natAbs (f («at» a i)) ≤ B) → Bounded B (map f a)
+map-bound f B [] g i = omega arith
+map-bound f B (x ∷ a) g zero = g 0 (omega arith)
+map-bound f B (x ∷ a) g (suc i) = map-bound f B a (λ j l. g (suc j) (omega arith)) i
+
+pub near-small : (s x : ℤ) → Few s → Near s x → natAbs x ≤ 80
+near-small s x h k = go s x (h .least) (h .most) (k .low) (k .high)
+  where
+    go : (s x : ℤ) → pos 1 ≤ℤ s → natAbs s ≤ 16 → (negℤ (pos 3 *ℤ s)) <ℤ x → x ≤ℤ (pos 5 *ℤ s) → natAbs x ≤ 80
+    go = byD₂ _ λ _ _ _ _. simp ints (omega arith)
+
+pub round-few : (s x : ℤ) → Few s → Near s x → natAbs (round (pos 2 *ℤ s) x) ≤ 2
+round-few s x h k = subst (λ (z : ℤ). natAbs z ≤ 2) (round-three s x h k) (go (ltZ s x) (ltZ (pos 3 *ℤ s) x) (ltZ x (pos 1 -ℤ s)))
+  where
+    go : (u v w : Bool) → natAbs (bit u +ℤ bit v -ℤ bit w) ≤ 2
+    go true true true = omega arith
+    go true true false = omega arith
+    go true false true = omega arith
+    go true false false = omega arith
+    go false true true = omega arith
+    go false true false = omega arith
+    go false false true = omega arith
+    go false false false = omega arith
+
+module _ {s : ℤ} {d : List ℤ} (h : Narrow s d) where
+  pub rounds-few : Sized 8 2 (map (round (pos 2 *ℤ s)) d)
+  rounds-few = record { long = length-map d (round (pos 2 *ℤ s)) ∙ h .long; small = map-bound (round (pos 2 *ℤ s)) 2 d (λ i l. round-few s («at» d i) (narrow-few h) (narrow-near h i (omega (arith, h .long)))) }
+
+  pub lefts-few : Sized 8 (natAbs s) (map (left (pos 2 *ℤ s)) d)
+  lefts-few = record { long = length-map d (left (pos 2 *ℤ s)) ∙ h .long; small = map-bound (left (pos 2 *ℤ s)) (natAbs s) d (λ i l. left-small s (few-divisor (narrow-few h)) («at» d i)) }
+
 module _ (s : ℤ) (h : Few s) where
   pub four-few : natAbs (pos 4 *ℤ s) ≤ 64
   four-few = omega (arith, abs-mul (pos 4) s, h .most)
@@ -102,6 +135,11 @@ module _ (s : ℤ) (h : Few s) where
     }
 
 -- ---- what is left
+
+-- the choice of a half, field by field
+pub brief-choose : (t : Bool) (x y : Mend) → record { parity = cond t (pos 0) (pos 1); place = cond t (x .place) (y .place); step = cond t (x .step) (y .step) } ≡ brief (choose t x y)
+brief-choose true x y = refl
+brief-choose false x y = refl
 
 -- a step at the entry j is one added where the index is j
 at-step : (e : List ℤ) (j i : ℕ) (t : ℤ) → i < length e → «at» (set e j («at» e j +ℤ t)) i ≡ «at» e i +ℤ cond (eqb i j) t (pos 0)

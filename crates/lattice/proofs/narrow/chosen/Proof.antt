@@ -1,8 +1,8 @@
 -- `chosen` mends both halves, compares them, and takes one: call by call what the definition says.
 use borrow.Author.Needs.{needs}
 use mathlib.Core.Path.{_≡_, sym, _∙_, ap, ap₂, subst}
-use mathlib.Core.Bool.{Bool, true, false, cond}
-use Prim.Native.Nat.{_+_, _*_, _-_}
+use mathlib.Core.Bool.{Bool, cond}
+use Prim.Native.Nat.{ℕ, _+_, _*_, _-_}
 use native.Mathlib.Omega.{arith}
 use lib.Dec.{eqb}
 use lib.IntN.{ℤ, pos, natAbs, _+ℤ_}
@@ -11,13 +11,14 @@ use mir.Syntax.{w16}
 use mir.Val.{SFits}
 use mir.Facts.{toZ-ofZ}
 use Rattle.integers.specs.Laws.Signed.{<ℤ-weak}
-use Rattle.integers.specs.Laws.Sizes.{fits-abs, fits-add}
+use Rattle.integers.specs.Laws.Sizes.{abs-add, fits-mag}
 use Rattle.lattice.specs.declared.half.Mend.{Mend}
 use Rattle.lattice.specs.declared.half.Scan.{Scan}
 use Rattle.lattice.specs.Doubled.{par}
-use Rattle.lattice.specs.Laws.Choice.{mended-small, lead-small}
+use Rattle.lattice.specs.Laws.Narrow.{mended-slight, brief-choose}
 use Rattle.lattice.specs.Laws.Reciprocals.{twice-pos}
-use Rattle.lattice.specs.Pass.{Small, mended, lead, evenMend, oddMend, choose, chosen}
+use Rattle.lattice.specs.Narrow.{Slight, wide, wideMend, brief}
+use Rattle.lattice.specs.Pass.{mended, lead, evenMend, oddMend, choose, chosen}
 use Rattle.lattice.proofs.narrow.chosen.Statement.{statement}
 use Rattle.lattice.proofs.narrow.chosen.Tie as tie
 
@@ -26,7 +27,7 @@ module _ (b : tie.Start) where
   s = b .args .s
 
   abbrev scan : Scan
-  scan = b .args .c
+  scan = wide (b .args .c)
 
   abbrev x : Mend
   x = evenMend s scan
@@ -36,25 +37,25 @@ module _ (b : tie.Start) where
 
   -- how large its numbers are
   fs : SFits w16 (scan .sum)
-  fs = fits-abs _ (omega (arith, b .pre .1 .light .sum))
+  fs = fits-mag w16 _ (omega (arith, b .pre .1 .slim .sum))
 
   fk : SFits w16 (pos (scan .keys))
-  fk = fits-abs _ (omega (arith, b .pre .1 .light .keys))
+  fk = fits-mag w16 _ (omega (arith, b .pre .1 .slim .keys))
 
   fsk : SFits w16 (scan .sum +ℤ pos (scan .keys))
-  fsk = fits-add (scan .sum) (pos (scan .keys)) (omega (arith, b .pre .1 .light .keys, b .pre .1 .light .sum))
+  fsk = fits-mag w16 _ (omega (arith, abs-add (scan .sum) (pos (scan .keys)), b .pre .1 .slim .keys, b .pre .1 .slim .sum))
 
   fe : SFits w16 (scan .even)
-  fe = fits-abs _ (omega (arith, b .pre .1 .light .even))
+  fe = fits-mag w16 _ (omega (arith, b .pre .1 .slim .even))
 
   fo : SFits w16 (scan .odd)
-  fo = fits-abs _ (omega (arith, b .pre .1 .light .odd))
+  fo = fits-mag w16 _ (omega (arith, b .pre .1 .slim .odd))
 
-  x-small : Small x
-  x-small = mended-small s (b .pre .0) (scan .most) (b .pre .1 .most) (eqb (par (scan .sum)) 1)
+  x-small : Slight x
+  x-small = mended-slight s (b .pre .0) (scan .most) (b .pre .1 .most) (eqb (par (scan .sum)) 1)
 
-  y-small : Small y
-  y-small = mended-small s (b .pre .0) (16 * natAbs s + 15 - scan .least) (omega (arith, b .pre .0 .most)) (eqb (par (scan .sum +ℤ pos (scan .keys))) 1)
+  y-small : Slight y
+  y-small = mended-slight s (b .pre .0) (16 * natAbs s + 15 - scan .least) (omega (arith, b .pre .0 .most)) (eqb (par (scan .sum +ℤ pos (scan .keys))) 1)
 
 odd-requires : tie.Need-odd-requires
 odd-requires c κs = search needs
@@ -67,7 +68,7 @@ module _ (c : tie.After-mended) where
   abbrev b₁ : tie.Start
   b₁ = c .before .before .before
 
-  x-is : c .mended .result ≡ x b₁
+  x-is : wideMend (c .mended .result) ≡ x b₁
   x-is = (simp (toZ-ofZ, b₁ .fits .s) at (c .mended .ensures)) ∙ ap (mended (s b₁) (scan b₁ .most)) (simp (toZ-ofZ, fs b₁) at (c .before .odd .ensures))
 
 cast-mended : tie.Need-cast-mended
@@ -102,12 +103,12 @@ module _ (c : tie.After-mended2) where
   abbrev b₂ : tie.Start
   b₂ = b₁ even
 
-  y-is : c .mended2 .result ≡ y b₂
+  y-is : wideMend (c .mended2 .result) ≡ y b₂
   y-is = (simp (toZ-ofZ, b₂ .fits .s) at (c .mended2 .ensures)) ∙ ap (mended (s b₂) (16 * natAbs (s b₂) + 15 - scan b₂ .least)) (simp (toZ-ofZ, fs b₂, fk b₂, fsk b₂) at (c .before .odd2 .ensures))
 
 lead-requires : tie.Need-lead-requires
 lead-requires c κs = let m = c .before .before in let b = b₂ m in
-    simp (toZ-ofZ, b .fits .way, fe b, fo b) (b .pre .1 .light .even, b .pre .1 .light .odd, subst Small (sym (x-is (even m))) (x-small b), subst Small (sym (y-is m)) (y-small b), b .pre .2)
+    simp (toZ-ofZ, b .fits .way, fe b, fo b) (b .pre .1 .slim .even, b .pre .1 .slim .odd, subst Slight (sym (x-is (even m))) (x-small b), subst Slight (sym (y-is m)) (y-small b), b .pre .2)
 
 -- the comparison
 module _ (c : tie.After-lead) where
@@ -123,31 +124,56 @@ module _ (c : tie.After-lead) where
   fv : SFits w16 (c .lead .result)
   fv = record { sfits = c .lead .ok }
 
-behind-requires : tie.Need-behind-requires
-behind-requires c κs = let b = b₃ c in simp (toZ-ofZ, fv c) (rw (v-is c) (lead-small (scan b .even) (scan b .odd) (x b) (y b) (b .pre .1 .light .even) (b .pre .1 .light .odd) (x-small b) (y-small b) (b .args .way)))
+either-requires : tie.Need-either-requires
+either-requires c κs = search needs
+
+place-of-requires : tie.Need-place-of-requires
+place-of-requires c κs = search needs
+
+either-requires-2 : tie.Need-either-requires-2
+either-requires-2 c κs = search needs
 
 -- the choice by its sign
-module _ (c : tie.After-behind) where
+module _ (c : tie.After-either2) where
+  abbrev placed : tie.After-place-of
+  placed = c .before .before .before
+
   abbrev l : tie.After-lead
-  l = c .before
+  l = placed .before .before
 
   abbrev b₄ : tie.Start
   b₄ = b₃ l
 
-  parity : c .behind .result ≡ cond (ltZ (pos 0) (l .lead .result)) (pos 0) (pos 1)
-  parity = simp (toZ-ofZ, fv l) at (c .behind .ensures)
+  -- the mends that were made
+  abbrev X : Mend
+  X = wideMend (even (both l) .mended .result)
 
-  chosen-is : (t : Bool) → ltZ (pos 0) (l .lead .result) ≡ t → choose t (x b₄) (y b₄) ≡ chosen (s b₄) (scan b₄) (b₄ .args .way)
+  abbrev Y : Mend
+  Y = wideMend (both l .mended2 .result)
+
+  abbrev t : Bool
+  t = ltZ (pos 0) (l .lead .result)
+
+  parity : placed .before .either .result ≡ cond t (pos 0) (pos 1)
+  parity = simp (toZ-ofZ, fv l) at (placed .before .either .ensures)
+
+  place : placed .place-of .result ≡ cond t (X .place) (Y .place)
+  place = simp (toZ-ofZ, fv l) at (placed .place-of .ensures)
+
+  step : c .either2 .result ≡ cond t (X .step) (Y .step)
+  step = let f : SFits w16 (X .step) = record { sfits = c .before .before .struct-told5 .given .1 .0 .1 } in let g : SFits w16 (Y .step) = record { sfits = c .before .struct-told6 .given .1 .0 .1 } in
+      simp (toZ-ofZ, fv l, f, g) at (c .either2 .ensures)
+
+  chosen-is : choose t X Y ≡ chosen (s b₄) (scan b₄) (b₄ .args .way)
   unfolding chosen
-  chosen-is t e = ap (λ (t : Bool). choose t (x b₄) (y b₄)) (sym e ∙ ap (ltZ (pos 0)) (v-is l))
+  chosen-is = ap₂ (choose t) (x-is (even (both l))) (y-is (both l)) ∙ ap (λ (z : ℤ). choose (ltZ (pos 0) z) (x b₄) (y b₄)) (v-is l)
 
 returns : tie.Need-returns
-returns c = let n = c .before in let e : ltZ (pos 0) (l n .lead .result) ≡ true = simp (toZ-ofZ, fv (l n)) at (c .if1 .taken) in let p : SFits w16 (n .behind .result) = record { sfits = n .behind .ok } in
-    simp (toZ-ofZ, p) (ap₂ (λ (z : ℤ) (h : Mend). record { parity = z; mend = h }) (parity n ∙ ap (λ (t : Bool). cond t (pos 0) (pos 1)) e) (x-is (even (both (l n)))) ∙ chosen-is n true e)
-
-returns-2 : tie.Need-returns-2
-returns-2 c = let n = c .before in let e : ltZ (pos 0) (l n .lead .result) ≡ false = simp (toZ-ofZ, fv (l n)) at (c .if1 .left) in let p : SFits w16 (n .behind .result) = record { sfits = n .behind .ok } in
-    simp (toZ-ofZ, p) (ap₂ (λ (z : ℤ) (h : Mend). record { parity = z; mend = h }) (parity n ∙ ap (λ (t : Bool). cond t (pos 0) (pos 1)) e) (y-is (both (l n))) ∙ chosen-is n false e)
+returns c = let f : SFits w16 (placed c .before .either .result) = record { sfits = placed c .before .either .ok } in let g : SFits w16 (c .either2 .result) = record { sfits = c .either2 .ok } in
+    simp (toZ-ofZ, f, g)
+    (ap₂ (λ (p r : ℤ). record { parity = p; place = placed c .place-of .result; step = r }) (parity c) (step c)
+    ∙ ap (λ (n : ℕ). record { parity = cond (t c) (pos 0) (pos 1); place = n; step = cond (t c) (X c .step) (Y c .step) }) (place c)
+    ∙ brief-choose (t c) (X c) (Y c) ∙ ap brief (chosen-is c))
 
 pub chosen-spec : {M : Type 1} → statement M
 chosen-spec =
@@ -164,6 +190,7 @@ chosen-spec =
     odd-requires-2
     mended-requires-2
     lead-requires
-    behind-requires
-    returns
-    returns-2)
+    either-requires
+    place-of-requires
+    either-requires-2
+    returns)

@@ -8,16 +8,17 @@ use lib.IntN.{ℤ, pos}
 use mir.Syntax.{w16}
 use mir.Val.{SFits, toZ}
 use mir.Facts.{toZ-ofZ}
-use Rattle.integers.specs.Laws.Sizes.{fits-abs}
+use Rattle.integers.specs.Laws.Sizes.{fits-mag}
 use Rattle.integers.specs.Vectors.{«at»}
 use Rattle.lattice.specs.declared.half.Scan.{Scan}
-use Rattle.lattice.specs.Laws.Scans.{scan-light}
-use Rattle.lattice.specs.Pass.{Light, seen, scanned}
+use Rattle.lattice.specs.Laws.Narrow.{scan-slim}
+use Rattle.lattice.specs.Narrow.{Slim, wide}
+use Rattle.lattice.specs.Pass.{seen, scanned}
 use Rattle.lattice.proofs.narrow.scanned.Statement.{statement}
 use Rattle.lattice.proofs.narrow.scanned.Tie as tie
 
 abbrev Inv-loop : tie.InvT-loop
-Inv-loop f a s k c₀ i₀ c i = (i ≤ 8) × (c ≡ scanned (toZ w16 s) i f a)
+Inv-loop f a s k c₀ i₀ c i = (i ≤ 8) × (wide c ≡ scanned (toZ w16 s) i f a)
 
 abbrev μ-loop : tie.MeasureT-loop
 μ-loop f a s k c₀ i₀ c i = 8 - i
@@ -30,10 +31,10 @@ module _ (b : tie.Start Inv-loop μ-loop) where
   a = b .args .a .now
 
   ff : (i : ℕ) → SFits w16 («at» f i)
-  ff i = fits-abs _ (omega (arith, b .pre .0 .small i))
+  ff i = fits-mag w16 _ (omega (arith, b .pre .0 .small i))
 
   fa : (i : ℕ) → SFits w16 («at» a i)
-  fa i = fits-abs _ (omega (arith, b .pre .1 .small i))
+  fa i = fits-mag w16 _ (omega (arith, b .pre .1 .small i))
 
 module _ (l : tie.In-loop Inv-loop μ-loop) where
   abbrev start : tie.Start Inv-loop μ-loop
@@ -42,11 +43,11 @@ module _ (l : tie.In-loop Inv-loop μ-loop) where
   abbrev i : ℕ
   i = l .before .loop .i
 
-  is : l .before .loop .c ≡ scanned (start .args .s) i (f start) (a start)
+  is : wide (l .before .loop .c) ≡ scanned (start .args .s) i (f start) (a start)
   is = (simp (toZ-ofZ, start .fits .s) at (l .before .loop .inv)) .1
 
-  light : Light (l .before .loop .c)
-  light = subst Light (sym is) (scan-light (start .args .s) (f start) (a start) (start .pre .2) (start .pre .0 .small) (start .pre .1 .small) i (l .before .loop .inv .0))
+  slim : Slim (wide (l .before .loop .c))
+  slim = subst Slim (sym is) (scan-slim (start .args .s) (start .pre .2) (f start) (a start) (start .pre .0 .small) (start .pre .1 .small) i (l .before .loop .inv .0))
 
 element-copy-out-key : tie.Need-element-copy-out-key Inv-loop μ-loop
 element-copy-out-key c = omega arith
@@ -71,7 +72,7 @@ element-copy-out-seen-2 : tie.Need-element-copy-out-seen-2 Inv-loop μ-loop
 element-copy-out-seen-2 c = omega arith
 
 seen-requires : tie.Need-seen-requires Inv-loop μ-loop
-seen-requires c κs = let l = c .before .before in let b = start l in simp (toZ-ofZ, ff b (i l), fa b (i l), b .fits .s) (light l, b .pre .0 .small (i l), b .pre .1 .small (i l), b .pre .2, omega arith)
+seen-requires c κs = let l = c .before .before in let b = start l in simp (toZ-ofZ, ff b (i l), fa b (i l), b .fits .s) (slim l, b .pre .0 .small (i l), b .pre .1 .small (i l), b .pre .2, omega arith)
 
 add-i : tie.Need-add-i Inv-loop μ-loop
 add-i c = omega arith
@@ -82,12 +83,12 @@ loop-less c = omega arith
 loop-again : tie.Need-loop-again Inv-loop μ-loop
 unfolding scanned
 loop-again c = let l = c .before .before .before in let b = start l in let s : ℤ = b .args .s in
-    let e : c .seen .result ≡ seen s (l .before .loop .c) («at» (f b) (i l)) («at» (a b) (i l)) (i l) = simp (toZ-ofZ, ff b (i l), fa b (i l), b .fits .s) at (c .seen .ensures) in
+    let e : wide (c .seen .result) ≡ seen s (wide (l .before .loop .c)) («at» (f b) (i l)) («at» (a b) (i l)) (i l) = simp (toZ-ofZ, ff b (i l), fa b (i l), b .fits .s) at (c .seen .ensures) in
     (omega arith, simp (toZ-ofZ, b .fits .s) (rw (add-one (i l)) (e ∙ ap (λ (c : Scan). seen s c («at» (f b) (i l)) («at» (a b) (i l)) (i l)) (is l))))
 
 returns : tie.Need-returns Inv-loop μ-loop
 returns c = let l = c .before in let b = l .before .before .before in
-    subst (λ (n : ℕ). l .loop .c ≡ scanned (b .args .s) n (f b) (a b)) (omega arith) ((simp (toZ-ofZ, b .fits .s) at (l .loop .inv)) .1)
+    subst (λ (n : ℕ). wide (l .loop .c) ≡ scanned (b .args .s) n (f b) (a b)) (omega arith) ((simp (toZ-ofZ, b .fits .s) at (l .loop .inv)) .1)
 
 pub scanned-spec : {M : Type 1} → statement M
 scanned-spec =
