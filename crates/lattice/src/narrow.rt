@@ -4,9 +4,9 @@ ghost use mathlib.Core.Bool.{cond};
 ghost use mathlib.Core.List.{map};
 ghost use Prim.Native.Nat.{_≤_, _<_, min, max};
 ghost use lib.Dec.{eqb};
-ghost use lib.IntN.{pos, negℤ, natAbs, _*ℤ_};
+ghost use lib.IntN.{pos, natAbs, _*ℤ_};
 ghost use lib.ListN.{length};
-ghost use lib.Signed.{_≤ℤ_, _<ℤ_, ltZ};
+ghost use lib.Signed.{ltZ};
 ghost use Rattle.integers.specs.Vectors.{subV, scaleV, Sized};
 ghost use Rattle.lattice.specs.Computed.{nearestPoint};
 ghost use Rattle.lattice.specs.Doubled.{par};
@@ -94,11 +94,7 @@ fn key(x: i16, i: usize) -> u16
     ensures { λ r. ⌜ r ≡ key i x ⌝ }
 {
     let b = 16 * x + i as i16;
-    if b <= 7 {
-        (15 - b) as u16
-    } else {
-        b as u16
-    }
+    if b <= 7 { (15 - b) as u16 } else { b as u16 }
 }
 
 // The entry that a key is of.

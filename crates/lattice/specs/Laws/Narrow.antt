@@ -11,10 +11,10 @@ use lib.IntN.{ℤ, pos, negℤ, natAbs, _+ℤ_, _-ℤ_, _*ℤ_, +ℤ-idr}
 use lib.ListN.{length, set, length-map, length-set}
 use lib.Seq.{ext-getD, getD-set-same, getD-set-other}
 use lib.Signed.{_≤ℤ_, _<ℤ_, ltZ}
-use Rattle.integers.specs.Laws.Difference.{abs-D, ints, byD₂, byD₃}
+use Rattle.integers.specs.Laws.Difference.{ints, byD₂, byD₃}
 use Rattle.integers.specs.Laws.Loops.{range-at}
 use Rattle.integers.specs.Laws.Sizes.{abs-sub, abs-mul, abs-mul-le, ltZ-true, ltZ-false}
-use Rattle.integers.specs.Laws.Sums.{entries, lengths, at-map, sized-map}
+use Rattle.integers.specs.Laws.Sums.{entries, lengths, at-map}
 use Rattle.integers.specs.Vectors.{«at», subV, scaleV, Bounded, Sized}
 use Rattle.lattice.specs.declared.half.Mend.{Mend}
 use Rattle.lattice.specs.declared.point.Choice.{Choice}
