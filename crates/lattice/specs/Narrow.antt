@@ -1,4 +1,4 @@
--- The nearest point in narrow numbers: what it is asked for, how large its numbers are, and how they stand for those of the pass. No promise to a user cites these.
+-- The nearest point in narrow numbers: what it is asked for, how its numbers stand for those of the pass, and how large they are. No promise to a user cites these.
 use mathlib.Core.Path.{_≡_}
 use mathlib.Core.Bool.{cond}
 use mathlib.Core.List.{List, map}
@@ -25,12 +25,12 @@ pub record Narrow (s : ℤ) (d : List ℤ) : Type 0 where
   pub low : (i : ℕ) → i < 8 → (negℤ (pos 3 *ℤ s)) <ℤ «at» d i
   pub high : (i : ℕ) → i < 8 → «at» d i ≤ℤ (pos 5 *ℤ s)
 
--- the divisor alone
+-- a divisor up to 16
 pub record Few (s : ℤ) : Type 0 where
   pub least : pos 1 ≤ℤ s
   pub most : natAbs s ≤ 16
 
--- one number alone
+-- a number that three comparisons round
 pub record Near (s x : ℤ) : Type 0 where
   pub low : (negℤ (pos 3 *ℤ s)) <ℤ x
   pub high : x ≤ℤ (pos 5 *ℤ s)

@@ -15,27 +15,27 @@ ghost use Rattle.lattice.specs.Pass.{seen, scanned, mended, first, lead,
 ghost use Rattle.lattice.specs.Rounding.{round, left, sign, lowered, key, spot};
 
 // What one pass sees, as in the wide pass: the greatest and the least key, the sum of all keys, that of all roundings, and the squares of what each half leaves.
-pub(crate) struct Scan {
-    pub most: u16,
-    pub least: u16,
-    pub keys: u16,
-    pub sum: i16,
-    pub even: i16,
-    pub odd: i16,
+struct Scan {
+    most: u16,
+    least: u16,
+    keys: u16,
+    sum: i16,
+    even: i16,
+    odd: i16,
 }
 
 // How a half is mended: a step at a place, doubled, and what it adds to the cost.
-pub(crate) struct Mend {
-    pub place: u16,
-    pub step: i16,
-    pub cost: i16,
+struct Mend {
+    place: u16,
+    step: i16,
+    cost: i16,
 }
 
 // The half that is chosen, by its parity, and where and how it is mended.
-pub(crate) struct Choice {
-    pub parity: i16,
-    pub place: u16,
-    pub step: i16,
+struct Choice {
+    parity: i16,
+    place: u16,
+    step: i16,
 }
 
 // 1 where x is above y, else 0.
@@ -217,7 +217,7 @@ fn chosen(c: Scan, way: i16, s: i16) -> Choice
     }
 }
 
-// What the chosen half, mended, leaves where the rounding leaves a: at every place the step is looked for, so that no store waits for the place.
+// What the chosen half, mended, leaves where the rounding leaves a. The step is asked for at every place, so that nothing is stored at a computed one.
 fn left(a: &[i16; 8], c: Choice, s: i16) -> [i16; 8]
     requires { ⌜ Sized 8 16 (now a) × Few s × (natAbs (c .parity) ≤ 1) × (natAbs (c .step) ≤ 2) ⌝ }
     ensures { λ r. ⌜ r ≡ leftBy s c (now (a .entry)) ⌝ }

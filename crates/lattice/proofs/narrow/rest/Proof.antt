@@ -12,8 +12,8 @@ use mir.Facts.{toZ-ofZ}
 use Rattle.integers.specs.Laws.Sizes.{fits-mag}
 use Rattle.integers.specs.Laws.Sums.{sized-more}
 use Rattle.integers.specs.Vectors.{«at», Sized}
-use Rattle.lattice.specs.declared.narrow.Choice as choices
 use Rattle.lattice.specs.declared.half.Scan.{Scan}
+use Rattle.lattice.specs.declared.narrow.Choice as choices
 use Rattle.lattice.specs.declared.point.Choice.{Choice}
 use Rattle.lattice.specs.Laws.Choice.{sign-small, chosen-small}
 use Rattle.lattice.specs.Laws.Narrow.{few-divisor, narrow-few, rounds-few, lefts-few, scan-slender, rest-code}
