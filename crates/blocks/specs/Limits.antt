@@ -4,7 +4,7 @@ use mathlib.Core.List.{List}
 use lib.IntN.{ℤ}
 use lib.ListN.{length}
 use Rattle.integers.specs.Vectors.{«at», Sized}
-use Rattle.lattice.specs.Rounding.{Divisor}
+use Rattle.rounding.specs.Rounding.{Divisor}
 
 -- eight readings, none past 2^24 in magnitude
 abbrev pub Block : List ℤ → Type 0

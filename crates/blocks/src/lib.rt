@@ -5,7 +5,7 @@ ghost use Prim.Native.Nat.{_+_, _*_, _^_, _<_, _≤_};
 ghost use lib.IntN.{pos, natAbs};
 ghost use lib.ListN.{length, drop};
 ghost use Rattle.integers.specs.Vectors.{scaleV};
-ghost use Rattle.lattice.specs.Rounding.{Divisor};
+ghost use Rattle.rounding.specs.Rounding.{Divisor};
 ghost use Rattle.layers.specs.E8.{e8, nearest, digits8};
 ghost use Rattle.layers.specs.Sizes.{width, longPower, Base};
 ghost use Rattle.blocks.specs.Trials.{nothingLeft, pointAt, trial8, fits, firstFitting, roomAt, triedRoom};
@@ -52,7 +52,7 @@ pub fn try_step(x: &[i32], s: i64, q: i64, m: usize, out: &mut [u8]) -> Trial
     ensures answer { λ r. ⌜ r ≡ trial8 (natAbs q) m s (now (x .entry)) ⌝ }
     ensures room { λ _. ⌜ now (out .exit) ≡ digits8 (natAbs q) m (pointAt e8 nearest s (now (x .entry))) ++ drop (8 * m) (now (out .entry)) ⌝ }
 {
-    let point = lattice::point::nearest_point(&doubled(x), s);
+    let point = rounding::point::nearest_point(&doubled(x), s);
     let leftover = layers::digits::digits(&point, q, m, out);
     Trial { point, leftover }
 }

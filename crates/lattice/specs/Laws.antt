@@ -13,13 +13,3 @@ pub mod Tables
 pub mod Rows
 pub mod Basis
 pub mod Written
-pub mod Rounds
-pub mod Mending
-pub mod Places
-pub mod Reciprocals
-pub mod Keys
-pub mod Lowered
-pub mod Scans
-pub mod Mended
-pub mod Choice
-pub mod Narrow

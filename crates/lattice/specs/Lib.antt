@@ -4,7 +4,4 @@ pub mod Nearest
 pub mod Computed
 pub mod Answers
 pub mod Basis
-pub mod Rounding
-pub mod Pass
-pub mod Narrow
 pub mod Laws

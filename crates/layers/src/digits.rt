@@ -10,7 +10,7 @@ ghost use Rattle.layers.specs.E8.{e8, digits8, leftover8};
 ghost use Rattle.layers.specs.Layers.{remainders, layerDigits};
 ghost use Rattle.layers.specs.Sizes.{Base};
 use lattice::basis;
-use lattice::point;
+use rounding::point;
 
 // One digit: what x is above a multiple of q, from 0 to q - 1. (w is the reciprocal of q.)
 fn remainder(x: i64, q: i64, w: i64) -> u8

@@ -12,7 +12,7 @@ ghost use Rattle.layers.specs.Table.{TableFor};
 use crate::lookup;
 use crate::table;
 use lattice::basis;
-use lattice::point;
+use rounding::point;
 
 // Eight digits as coefficients.
 fn widened(ds: &[u8]) -> [i64; 8]

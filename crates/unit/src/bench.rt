@@ -33,7 +33,7 @@ pub extern "C" fn ek_take_units(x: i32) -> EkTaken
 pub extern "C" fn ek_nearest(d: &[i32], s: i32) -> EkPoint
     ensures { λ r. ⌜ r ≡ pointOut (nearest (now (d .entry)) s) ⌝ }
 {
-    answers::point_out(lattice::nearest(d, s))
+    answers::point_out(rounding::nearest(d, s))
 }
 
 // The digits of a doubled point to the front of the lent bytes, and what is left over (01, Layers and steps).

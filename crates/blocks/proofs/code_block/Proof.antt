@@ -13,7 +13,7 @@ use mir.Val.{SFits, toZ, ofZ}
 use mir.Facts.{toZ-ofZ, sfits-widen}
 use Rattle.integers.specs.Laws.Sizes.{fits-abs}
 use Rattle.integers.specs.Vectors.{«at»}
-use Rattle.lattice.specs.Rounding.{Divisor}
+use Rattle.rounding.specs.Rounding.{Divisor}
 use Rattle.layers.specs.E8.{e8, nearest}
 use Rattle.layers.specs.Laws.Bases.{base-two}
 use Rattle.layers.specs.Laws.E8.{digits8-long}

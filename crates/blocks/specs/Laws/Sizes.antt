@@ -12,7 +12,7 @@ use Rattle.integers.specs.Laws.Linear.{Z}
 use Rattle.integers.specs.Laws.Sizes.{abs-from, abs-times, abs-mul-le}
 use Rattle.integers.specs.Laws.Sums.{sized-map, sized-more}
 use Rattle.integers.specs.Vectors.{«at», scaleV, Sized}
-use Rattle.lattice.specs.Rounding.{Divisor}
+use Rattle.rounding.specs.Rounding.{Divisor}
 use Rattle.layers.specs.Laws.Widths.{bounded-within, width-less}
 use Rattle.layers.specs.Rule.{Lattice, Rule}
 use Rattle.layers.specs.E8.{e8, nearest}

@@ -19,7 +19,7 @@ use Rattle.integers.specs.Vectors.{small, «at», addV, subV, scaleV, dot, Boun
 use Rattle.lattice.specs.Basis.{basis, inverse, apply, pointOf, coefficients}
 use Rattle.lattice.specs.Computed.{nearestPoint}
 use Rattle.lattice.specs.Laws.Rows.{Rows}
-use Rattle.lattice.specs.Rounding.{Divisor}
+use Rattle.rounding.specs.Rounding.{Divisor}
 use Rattle.layers.specs.Digits.{Below, IsLayer, IsCode, cut}
 use Rattle.layers.specs.E8.{e8, nearest, layerPoint8, decode8}
 use Rattle.layers.specs.Laws.E8.{decode-in8}
