@@ -12,5 +12,4 @@ pub mod Loops
 pub mod Bases
 pub mod E8
 pub mod Table
-pub mod Columns
 pub mod Asked

@@ -6,6 +6,5 @@ pub mod Sums
 pub mod Sizes
 pub mod E8
 pub mod Table
-pub mod Columns
 pub mod Answers
 pub mod Laws

@@ -8,4 +8,3 @@ pub mod Lowered
 pub mod Scans
 pub mod Mended
 pub mod Choice
-pub mod Narrow

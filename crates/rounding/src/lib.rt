@@ -1,7 +1,6 @@
 // The nearest point of E8 to d / s (01, The lattice).
 mod coordinate;
-mod half;
-pub mod narrow;
+pub mod half;
 pub mod point;
 
 ghost use mathlib.Core.Path.{_≡_};

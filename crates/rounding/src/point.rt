@@ -15,9 +15,9 @@ use crate::half::Scan;
 use lattice::member;
 
 // The half that is chosen, by its parity, and its mend.
-struct Choice {
-    parity: i64,
-    mend: Mend,
+pub struct Choice {
+    pub parity: i64,
+    pub mend: Mend,
 }
 
 // The step at the first entry.

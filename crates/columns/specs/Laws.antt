@@ -1,0 +1,3 @@
+-- Proved facts of columns.
+pub mod Narrow
+pub mod Columns
