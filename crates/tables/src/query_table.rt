@@ -33,11 +33,11 @@ use scores::hours;
 // The greatest q that the table is for.
 const QUERY_MOST: usize = 4;
 
-// The lesser of two.
-fn least(a: usize, b: usize) -> usize
-    ensures { λ r. ⌜ r ≡ min a b ⌝ }
+// How many entries the next group has where so many are left: eight, or all of them.
+fn group_size(left: usize) -> usize
+    ensures { λ r. ⌜ r ≡ min 8 left ⌝ }
 {
-    if a < b { a } else { b }
+    if left < 8 { left } else { 8 }
 }
 
 // In each of k parts the n entries from the first on: the sums of the block's readings with the layer points l of these entries. All else stays as found.
@@ -75,7 +75,7 @@ pub fn fill_blocks(x: &[i32], q: i64, k: usize, entries: &mut [i32])
     let mut ds: [u8; 8] = [0; 8];
     let mut i: usize = 0;
     while i < size {
-        let n = least(8, size - i);
+        let n = group_size(size - i);
         let c = counting::counted(&mut ds, values, n);
         let l = columns::layer_points(&c, base);
         fill_group(&l, x, size, k, i, n, entries);

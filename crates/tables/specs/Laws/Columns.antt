@@ -1,12 +1,11 @@
 -- Columns that loops make: one written entry by entry, digits counted up side by side, sums with each.
 use mathlib.Core.Path.{_≡_, refl, sym, _∙_, ap, subst}
-use mathlib.Core.Logic.{_≢_}
 use mathlib.Core.List.{List, []}
-use Prim.Native.Nat.{ℕ, zero, suc, _+_, _<_, _≤_}
+use Prim.Native.Nat.{ℕ, _+_, _<_, _≤_}
 use native.Mathlib.Decide.{ℕ-discrete, decLe}
 use native.Mathlib.Omega.{arith}
 use lib.IntN.{ℤ, pos}
-use lib.ListN.{length, getD, set, replicate, length-map, length-set, length-replicate, getD-replicate}
+use lib.ListN.{length, getD, set, replicate, length-map, length-set, getD-replicate}
 use lib.Seq.{getD-set-same, getD-set-other, ext-getD}
 use Rattle.integers.specs.Laws.Loops.{map-at}
 use Rattle.integers.specs.Vectors.{«at», dot}

@@ -1,19 +1,18 @@
 -- Groups of entries: written block by block, and group after group until every block has its part.
-use mathlib.Core.Path.{_≡_, refl, sym, _∙_, ap, ap₂, subst}
+use mathlib.Core.Path.{_≡_, refl, sym, _∙_, ap, subst}
 use mathlib.Core.Logic.{_⊎_, inl, inr}
-use mathlib.Core.List.{List, [], _∷_, _++_, map}
+use mathlib.Core.List.{List, _++_, map}
 use Prim.Native.Nat.{ℕ, zero, suc, _+_, _*_, _-_, _/_, _%_, _<_, _≤_}
 use native.Mathlib.Decide.{ℕ-discrete, decLe}
 use native.Mathlib.Nat.{mul-le-mul, le-refl, div-add-mod, mod-lt}
 use native.Mathlib.Omega.{arith}
 use borrow.Rule.Slice.PartMut.{putMid}
 use lib.IntN.{ℤ, pos}
-use lib.ListN.{length, getD, take, drop, length-append, length-take, length-drop, List·getD-append}
-use lib.Seq.{getD-take, getD-drop, getD-append-add, drop-drop, drop-at, length-take-le, ext-getD}
-use Rattle.integers.specs.Laws.Loops.{range}
+use lib.ListN.{length, take, drop, length-append, length-take, length-drop, List·getD-append}
+use lib.Seq.{getD-take, getD-drop, getD-append-add, length-take-le, ext-getD}
 use Rattle.integers.specs.Vectors.{«at», dot}
 use Rattle.layers.specs.Digits.{joined, cut}
-use Rattle.records.specs.Laws.Parts.{part-ends, cut-long, cut-at, part-made}
+use Rattle.records.specs.Laws.Parts.{part-ends, cut-long}
 use Rattle.tables.specs.Columns.{column}
 use Rattle.tables.specs.Groups.{ColumnDots, GroupFilled}
 use Rattle.tables.specs.Laws.Entries.{parts-long, parts-at}

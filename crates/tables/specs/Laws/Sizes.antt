@@ -5,7 +5,7 @@ use Prim.Native.Nat.{ℕ, _*_, _^_, _<_, _≤_}
 use native.Mathlib.Omega.{arith}
 use lib.IntN.{ℤ, natAbs}
 use Rattle.integers.specs.Laws.Sums.{sized-more}
-use Rattle.integers.specs.Vectors.{«at», dot, Sized}
+use Rattle.integers.specs.Vectors.{«at», Sized}
 use Rattle.lattice.specs.Doubled.{E8}
 use Rattle.layers.specs.Digits.{digitsOf}
 use Rattle.layers.specs.E8.{e8, nearest}
@@ -31,10 +31,6 @@ module _ (q : ℕ) (q> : 0 < q) (i : ℕ) where
   -- as inner products are made
   pub layerAt-small : q ≤ queryMost → Sized 8 (2 ^ 24) (layerAt q i)
   layerAt-small h = sized-more 8 (2 * q) (layerAt q i) layerAt-sized (2 ^ 24) (omega arith)
-
-  -- an entry of the query table fits 32 bits
-  pub queryEntry-small : q ≤ queryMost → (X : List ℤ) → Sized 8 (2 ^ 24) X → natAbs (dot X (layerAt q i)) ≤ 2 ^ 30
-  queryEntry-small h X k = omega (arith, dot-sized 8 (2 ^ 24) (2 * q) X (layerAt q i) k layerAt-sized)
 
 -- layer points side by side, as sums with them are made
 pub points-small : (q : ℕ) → 0 < q → q ≤ queryMost → (c : List (List ℕ)) (r : List (List ℤ)) → LayerColumns q c → PointColumns q c r → SizedColumns 8 r

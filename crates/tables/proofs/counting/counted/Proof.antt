@@ -1,9 +1,7 @@
 -- `counted` writes column after column: after t turns the first t hold the digits of the entry numbers from that of ds on, and ds those of the next.
 use mathlib.Core.Path.{_≡_, refl, sym, _∙_, ap, subst}
-use mathlib.Core.List.{List}
 use Prim.Native.Nat.{ℕ, suc, _+_, _-_, _<_, _≤_}
 use native.Mathlib.Omega.{arith}
-use lib.ListN.{length}
 use Rattle.layers.specs.Digits.{IsLayer, entryOf, digitsOf}
 use Rattle.layers.specs.Laws.Entries.{digitsOf-layer, digitsOf-entryOf}
 use Rattle.layers.specs.Laws.Rows.{below-at}

@@ -1,5 +1,5 @@
 -- `put_column` goes down the rows: after j turns the first j have their entry.
-use Prim.Native.Nat.{ℕ, _-_, _≤_}
+use Prim.Native.Nat.{_-_, _≤_}
 use native.Mathlib.Omega.{arith}
 use Rattle.tables.specs.Laws.Columns.{Putting, putting-none, putting-more, putting-all}
 use Rattle.tables.proofs.counting.put_column.Statement.{statement}

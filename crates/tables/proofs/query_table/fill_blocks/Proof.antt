@@ -1,17 +1,17 @@
 -- `fill_blocks` goes through the entry numbers, up to eight at a time: after those below i the first i entries of every part are right.
-use mathlib.Core.Path.{_≡_, refl, sym, _∙_, ap, ap₂, subst}
-use mathlib.Core.List.{List, _++_, map}
-use Prim.Native.Nat.{ℕ, _+_, _*_, _-_, _^_, _<_, _≤_, min}
+use mathlib.Core.Path.{_≡_, sym, _∙_, ap, subst}
+use mathlib.Core.List.{List}
+use Prim.Native.Nat.{ℕ, _+_, _*_, _-_, _<_, _≤_}
 use native.Mathlib.Omega.{arith}
 use lib.Dec.{T}
 use lib.IntN.{ℤ, pos, natAbs}
-use lib.ListN.{length, drop}
+use lib.ListN.{length}
 use lib.Signed.{nonNeg}
 use mir.Syntax.{w16, w64}
 use mir.Val.{SFits, toZ, ofZ}
 use mir.Facts.{toZ-ofZ}
 use Rattle.integers.specs.Laws.Sizes.{fits-mag}
-use Rattle.layers.specs.Digits.{IsLayer, entryOf, digitsOf, joined, cut}
+use Rattle.layers.specs.Digits.{IsLayer, entryOf, digitsOf}
 use Rattle.layers.specs.E8.{layerPoint8}
 use Rattle.layers.specs.Sizes.{Base}
 use Rattle.layers.specs.Laws.Bases.{base-is, base-two}
@@ -22,7 +22,7 @@ use Rattle.tables.specs.Laws.Counting.{digits-zero, entryOf-digitsOf}
 use Rattle.tables.specs.Laws.Entries.{part-most}
 use Rattle.tables.specs.Laws.Groups.{FilledTo, filled-none, filled-more, filled-all}
 use Rattle.tables.specs.Laws.Sizes.{points-small}
-use Rattle.tables.specs.Tables.{partSize, layerAt, queryPart}
+use Rattle.tables.specs.Tables.{partSize, layerAt}
 use Rattle.tables.proofs.query_table.fill_blocks.Statement.{statement}
 use Rattle.tables.proofs.query_table.fill_blocks.Tie as tie
 
@@ -66,28 +66,28 @@ module _ (l : tie.At-loop Inv-loop μ-loop) where
   filled = simp (toZ-ofZ, s .fits .q) at (l .loop .inv .2)
 
 -- the entries of this group
-module _ (c : tie.After-least Inv-loop μ-loop) where
+module _ (c : tie.After-group-size Inv-loop μ-loop) where
   abbrev d : tie.In-loop Inv-loop μ-loop
   d = c .before
 
   abbrev n : ℕ
-  n = c .least .result
+  n = c .group-size .result
 
   less : i (d .before) < partSize (q (d .before))
   less = omega (arith, d .loop-test .taken, size-is (d .before))
 
   n-most : n ≤ 8
-  n-most = omega (arith, c .least .ensures)
+  n-most = omega (arith, c .group-size .ensures)
 
   n-some : 0 < n
-  n-some = omega (arith, c .least .ensures, d .loop-test .taken)
+  n-some = omega (arith, c .group-size .ensures, d .loop-test .taken)
 
   n-ends : i (d .before) + n ≤ partSize (q (d .before))
-  n-ends = omega (arith, c .least .ensures, d .loop-test .taken, size-is (d .before))
+  n-ends = omega (arith, c .group-size .ensures, d .loop-test .taken, size-is (d .before))
 
 -- their digits
 module _ (c : tie.After-counted Inv-loop μ-loop) where
-  abbrev a : tie.After-least Inv-loop μ-loop
+  abbrev a : tie.After-group-size Inv-loop μ-loop
   a = c .before .before
 
   abbrev l : tie.At-loop Inv-loop μ-loop
@@ -141,11 +141,11 @@ cast-base c = simp (toZ-ofZ, c .before .fits .q) (base-fits (c .before))
 loop-holds : tie.Need-loop-holds Inv-loop μ-loop
 loop-holds c = let s = c .before in (omega arith, sym (digits-zero _ 8), filled-none _ (s .args .k) (s .args .x .now) (s .args .entries .now))
 
-sub-least : tie.Need-sub-least Inv-loop μ-loop
-sub-least c = omega (arith, c .loop-test .taken)
+sub-group-size : tie.Need-sub-group-size Inv-loop μ-loop
+sub-group-size c = omega (arith, c .loop-test .taken)
 
-least-requires : tie.Need-least-requires Inv-loop μ-loop
-least-requires c κs = tt
+group-size-requires : tie.Need-group-size-requires Inv-loop μ-loop
+group-size-requires c κs = tt
 
 counted-requires : tie.Need-counted-requires Inv-loop μ-loop
 counted-requires c κs = let a = c .before in let l = d a .before in simp (toZ-ofZ, s l .fits .q) (subst (IsLayer 8 (q l)) (sym (ds-is l)) (digitsOf-layer (q l) (q> l) 8 (i l)), n-most a)
@@ -170,7 +170,7 @@ module _ (c : tie.After-fill-group Inv-loop μ-loop) where
   abbrev p : tie.After-layer-points Inv-loop μ-loop
   p = c .before .before .before
 
-  abbrev g : tie.After-least Inv-loop μ-loop
+  abbrev g : tie.After-group-size Inv-loop μ-loop
   g = a (e p)
 
   abbrev t : tie.At-loop Inv-loop μ-loop
@@ -209,8 +209,8 @@ fill-blocks-spec =
     cast-values
     cast-base
     loop-holds
-    sub-least
-    least-requires
+    sub-group-size
+    group-size-requires
     counted-requires
     layer-points-requires
     fill-group-requires

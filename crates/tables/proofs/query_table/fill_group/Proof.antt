@@ -1,5 +1,5 @@
 -- `fill_group` fills the group's entries of part after part: after b turns those of the first b blocks are right, and all else is as found.
-use mathlib.Core.Path.{_≡_, sym, _∙_, ap, ap₂, subst}
+use mathlib.Core.Path.{_≡_, sym, ap, subst}
 use mathlib.Core.List.{List}
 use Prim.Native.Nat.{ℕ, _+_, _*_, _-_, _^_, _≤_}
 use native.Mathlib.Nat.{mul-le-mul}

@@ -1,11 +1,11 @@
 -- `dot_column` sums the products of the readings with the column's entries: after j turns the inner product of the first j of each.
 use mathlib.Core.Path.{_≡_, refl, sym, _∙_, ap, ap₂, subst}
 use mathlib.Core.List.{List, []}
-use Prim.Native.Nat.{ℕ, suc, _-_, _^_, _<_, _≤_}
+use Prim.Native.Nat.{ℕ, suc, _-_, _^_, _≤_}
 use native.Mathlib.Numerals.{add-one}
 use native.Mathlib.Omega.{arith}
 use lib.IntN.{ℤ, pos, natAbs, _+ℤ_, _*ℤ_}
-use lib.ListN.{length, getD, take, length-map}
+use lib.ListN.{getD, take, length-map}
 use lib.Seq.{take-all}
 use mir.Syntax.{w16, w32}
 use mir.Val.{SFits, toZ}
