@@ -1,6 +1,5 @@
 -- Tables of scores. Definitions stand here; `Laws` holds what is proved of them.
 pub mod Tables
-pub mod Columns
 pub mod Groups
 pub mod Filling
 pub mod Scoring

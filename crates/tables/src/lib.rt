@@ -1,5 +1,4 @@
 // Tables of scores: filling them, and scoring by them (01, Scores).
-mod columns;
 mod counting;
 pub mod pair_score;
 pub mod pair_table;

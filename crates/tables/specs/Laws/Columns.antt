@@ -1,17 +1,19 @@
 -- Columns that loops make: one written entry by entry, digits counted up side by side, sums with each.
 use mathlib.Core.Path.{_≡_, refl, sym, _∙_, ap, subst}
-use mathlib.Core.List.{List, []}
+use mathlib.Core.Logic.{_≢_}
+use mathlib.Core.List.{List, [], map-id}
 use Prim.Native.Nat.{ℕ, _+_, _<_, _≤_}
 use native.Mathlib.Decide.{ℕ-discrete, decLe}
 use native.Mathlib.Omega.{arith}
 use lib.IntN.{ℤ, pos}
 use lib.ListN.{length, getD, set, replicate, length-map, length-set, getD-replicate}
 use lib.Seq.{getD-set-same, getD-set-other, ext-getD}
-use Rattle.integers.specs.Laws.Loops.{map-at}
+use Rattle.integers.specs.Laws.Loops.{Filled, filled-more, filled-all, map-at}
 use Rattle.integers.specs.Vectors.{«at», dot}
+use Rattle.layers.specs.Columns.{column, Square8, LayerColumns}
 use Rattle.layers.specs.Digits.{IsLayer, digitsOf}
+use Rattle.layers.specs.Laws.Columns.{put-square, put-here, put-other}
 use Rattle.layers.specs.Laws.Entries.{digitsOf-layer}
-use Rattle.tables.specs.Columns.{column, Square8, LayerColumns}
 use Rattle.tables.specs.Groups.{ColumnPut, ColumnDots}
 use Rattle.tables.specs.Laws.Counting.{digits-zero}
 
@@ -19,48 +21,30 @@ use Rattle.tables.specs.Laws.Counting.{digits-zero}
 pub column-at : {A : Type 0} (blank : A) (t : ℕ) (c : List (List A)) (j : ℕ) → j < length c → getD (column blank t c) j blank ≡ getD (getD c j []) t blank
 column-at {A} blank t c j h = map-at (λ (row : List A). getD row t blank) c j [] blank h
 
--- ---- a column that is written from the first row on
+-- ---- a column that is written from the first row on: so far the first j entries, and no other column
 
 pub record Putting (t : ℕ) (ds : List ℕ) (o : List (List ℕ)) (j : ℕ) (c : List (List ℕ)) : Type 0 where
-  pub long : length c ≡ 8
-  pub done : (i : ℕ) → i < j → getD c i [] ≡ set (getD o i []) t (getD ds i 0)
-  pub left : (i : ℕ) → j ≤ i → getD c i [] ≡ getD o i []
+  pub square : Square8 c
+  pub filled : Filled (λ (d : ℕ). d) 8 ds j (column 0 t c)
+  pub others : (u : ℕ) → u ≢ t → column 0 u c ≡ column 0 u o
 
-module _ (t : ℕ) (ds : List ℕ) (o : List (List ℕ)) where
-  -- before the first
+module _ (t : ℕ) (t< : t < 8) (ds : List ℕ) (long : length ds ≡ 8) (o : List (List ℕ)) where
+  -- none yet
   pub putting-none : Square8 o → Putting t ds o 0 o
-  putting-none s = record { long = s .long; done = λ i h. absurd (omega arith); left = λ i h. refl }
+  putting-none s = record { square = s; filled = record { within = omega arith; long = length-map o _ ∙ s .long; same = refl }; others = λ u ne. refl }
 
   module _ (j : ℕ) (c : List (List ℕ)) (p : Putting t ds o j c) where
-    -- one row more
+    -- one more
     pub putting-more : j < 8 → Putting t ds o (j + 1) (set c j (set (getD c j []) t (getD ds j 0)))
-    putting-more h = record {
-      long = length-set c j _ ∙ p .long;
-      done = λ i k. elim (ℕ-discrete i j) [
-        | yes e ↦ subst (λ (i : ℕ). getD (set c j new) i [] ≡ set (getD o i []) t (getD ds i 0)) (sym e) (getD-set-same c j new [] (omega (arith, p .long)) ∙ ap (λ (r : List ℕ). set r t (getD ds j 0)) (p .left j (omega arith)))
-        | no e ↦ getD-set-other c j i new [] e ∙ p .done i (omega arith)
-      ];
-      left = λ i k. getD-set-other c j i new [] (λ e. absurd (omega arith)) ∙ p .left i (omega arith);
+    putting-more h = let d : ℕ = getD ds j 0 in record {
+      square = put-square 0 c (p .square) j t h t< d;
+      filled = subst (Filled (λ (d : ℕ). d) 8 ds (j + 1)) (sym (put-here 0 c (p .square) j t h t< d)) (filled-more (λ (d : ℕ). d) 8 ds long 0 d refl h (p .filled));
+      others = λ u ne. put-other 0 c (p .square) j t h t< d u ne ∙ p .others u ne;
     }
-      where
-        new : List ℕ
-        new = set (getD c j []) t (getD ds j 0)
 
-    -- after the last
-    pub putting-all : 8 ≤ j → Square8 o → t < 8 → length ds ≡ 8 → ColumnPut t ds o c
-    putting-all h s t< long = record {
-      square = record { long = p .long; rows = λ i k. ap length (row i k) ∙ length-set (getD o i []) t (getD ds i 0) ∙ s .rows i k };
-      put = ext-getD 0 (column 0 t c) ds (length-map c _ ∙ p .long ∙ sym long)
-          (λ i k. let l = within t i k in column-at 0 t c i (omega (arith, p .long)) ∙ ap (λ (r : List ℕ). getD r t 0) (row i l) ∙ getD-set-same (getD o i []) t (getD ds i 0) 0 (omega (arith, s .rows i l)));
-      others = λ u ne. ext-getD 0 (column 0 u c) (column 0 u o) (length-map c _ ∙ p .long ∙ sym (length-map o _ ∙ s .long))
-          (λ i k. let l = within u i k in column-at 0 u c i (omega (arith, p .long)) ∙ ap (λ (r : List ℕ). getD r u 0) (row i l) ∙ getD-set-other (getD o i []) t u (getD ds i 0) 0 ne ∙ sym (column-at 0 u o i (omega (arith, s .long))));
-    }
-      where
-        row : (i : ℕ) → i < 8 → getD c i [] ≡ set (getD o i []) t (getD ds i 0)
-        row i k = p .done i (omega arith)
-
-        within : (u i : ℕ) → i < length (column 0 u c) → i < 8
-        within u i k = omega (arith, length-map c (λ (r : List ℕ). getD r u 0), p .long)
+    -- all
+    pub putting-all : 8 ≤ j → ColumnPut t ds o c
+    putting-all h = record { square = p .square; put = filled-all (λ (d : ℕ). d) 8 ds long h (p .filled) ∙ map-id ds; others = p .others }
 
 -- ---- digits counted up: the columns before t are those of the entry numbers from i on, the others are 0
 

@@ -7,6 +7,7 @@ use lib.IntN.{ℤ, natAbs}
 use Rattle.integers.specs.Laws.Sums.{sized-more}
 use Rattle.integers.specs.Vectors.{«at», Sized}
 use Rattle.lattice.specs.Doubled.{E8}
+use Rattle.layers.specs.Columns.{column, LayerColumns, PointColumns}
 use Rattle.layers.specs.Digits.{digitsOf}
 use Rattle.layers.specs.E8.{e8, nearest}
 use Rattle.layers.specs.Laws.Entries.{digitsOf-layer}
@@ -15,7 +16,6 @@ use Rattle.layers.specs.Laws.Widths.{layerPoint-small}
 use Rattle.scores.specs.Laws.Inner.{inner-size}
 use Rattle.scores.specs.Laws.Sizes.{dot-sized}
 use Rattle.scores.specs.Scores.{inner}
-use Rattle.tables.specs.Columns.{column, LayerColumns, PointColumns}
 use Rattle.tables.specs.Groups.{SizedColumns}
 use Rattle.tables.specs.Tables.{queryMost, layerAt}
 

@@ -12,7 +12,7 @@ abbrev μ-loop : tie.MeasureT-loop
 μ-loop c₀ t ds j₀ c j = 8 - j
 
 loop-holds : tie.Need-loop-holds Inv-loop μ-loop
-loop-holds c = let a = c .args in (omega arith, putting-none (a .t) (a .ds .now) (a .c .now) (c .pre .0))
+loop-holds c = let a = c .args in (omega arith, putting-none (a .t) (c .pre .1) (a .ds .now) (c .pre .2) (a .c .now) (c .pre .0))
 
 element-copy-out-c : tie.Need-element-copy-out-c Inv-loop μ-loop
 element-copy-out-c c = c .loop-test .taken
@@ -33,11 +33,11 @@ loop-less : tie.Need-loop-less Inv-loop μ-loop
 loop-less c = omega arith
 
 loop-again : tie.Need-loop-again Inv-loop μ-loop
-loop-again c = let l = c .before .before in let a = l .before .args in (omega arith, putting-more (a .t) (a .ds .now) (a .c .now) (l .loop .j) (l .loop .c) (l .loop .inv .1) (c .before .loop-test .taken))
+loop-again c = let l = c .before .before in let s = l .before in let a = s .args in (omega arith, putting-more (a .t) (s .pre .1) (a .ds .now) (s .pre .2) (a .c .now) (l .loop .j) (l .loop .c) (l .loop .inv .1) (c .before .loop-test .taken))
 
 returns : tie.Need-returns Inv-loop μ-loop
 returns c = let l = c .before in let s = l .before in let a = s .args in
-    putting-all (a .t) (a .ds .now) (a .c .now) (l .loop .j) (l .loop .c) (l .loop .inv .1) (c .loop-test .left) (s .pre .0) (s .pre .1) (s .pre .2)
+    putting-all (a .t) (s .pre .1) (a .ds .now) (s .pre .2) (a .c .now) (l .loop .j) (l .loop .c) (l .loop .inv .1) (c .loop-test .left)
 
 pub put-column-spec : {M : Type 1} → statement M
 put-column-spec =

@@ -11,12 +11,12 @@ use mir.Syntax.{w16, w64}
 use mir.Val.{SFits, toZ, ofZ}
 use mir.Facts.{toZ-ofZ}
 use Rattle.integers.specs.Laws.Sizes.{fits-mag}
+use Rattle.layers.specs.Columns.{column, LayerColumns, PointColumns}
 use Rattle.layers.specs.Digits.{IsLayer, entryOf, digitsOf}
 use Rattle.layers.specs.E8.{layerPoint8}
 use Rattle.layers.specs.Sizes.{Base}
 use Rattle.layers.specs.Laws.Bases.{base-is, base-two}
 use Rattle.layers.specs.Laws.Entries.{digitsOf-layer}
-use Rattle.tables.specs.Columns.{column, LayerColumns, PointColumns}
 use Rattle.tables.specs.Groups.{SizedColumns, GroupFilled}
 use Rattle.tables.specs.Laws.Counting.{digits-zero, entryOf-digitsOf}
 use Rattle.tables.specs.Laws.Entries.{part-most}
