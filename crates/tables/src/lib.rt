@@ -5,3 +5,4 @@ pub mod pair_table;
 mod parts;
 pub mod query_score;
 pub mod query_table;
+mod slots;

@@ -1,13 +1,12 @@
 // Filling the query table: the sums of X_i·e_i over every layer point, block after block (01, Scores).
 ghost use mathlib.Core.Path.{_≡_};
 ghost use mathlib.Core.List.{[], _∷_, _++_, map};
-ghost use Prim.Native.Nat.{_*_, _/_, _^_, _≤_};
+ghost use Prim.Native.Nat.{_+_, _*_, _/_, _^_, _≤_, min};
 ghost use lib.IntN.{pos, natAbs};
 ghost use lib.ListN.{length, drop};
 ghost use Rattle.integers.specs.Vectors.{Sized};
 ghost use Rattle.layers.specs.Digits.{joined, cut};
 ghost use Rattle.layers.specs.Sizes.{Base};
-ghost use Rattle.layers.specs.Table.{TableFor};
 ghost use Rattle.records.specs.Vectors.{unitsHour, fvecsHour, checkReadings, UnitsTaken};
 ghost use Rattle.refusals.specs.declared.Verdict.the-variants.{Accepted};
 ghost use Rattle.refusals.specs.Answers.{valued, written};
@@ -15,12 +14,12 @@ ghost use Rattle.refusals.specs.Laws.Allowed.{Allowed};
 ghost use Rattle.refusals.specs.Settings.{checkSettings};
 ghost use Rattle.refusals.specs.Verdicts.{firstRefusal};
 ghost use Rattle.tables.specs.Filling.{checkTable, checkEntries, lentAsked, queryTableAsked, checkQueryTable, queryFilled, queryTableRoom};
+ghost use Rattle.tables.specs.Groups.{SizedColumns, GroupFilled};
 ghost use Rattle.tables.specs.Tables.{queryMost, partSize, queryPart, queryTable};
 use crate::counting;
 use crate::parts;
-use lattice::lent;
-use layers::points;
-use layers::table;
+use crate::slots;
+use layers::columns;
 use readings::words;
 use records::frames;
 use records::vectors;
@@ -30,54 +29,57 @@ use refusals::Verdict;
 use refusals::settings;
 use refusals::settings::Settings;
 use scores::hours;
-use scores::inner;
 
 // The greatest q that the table is for.
 const QUERY_MOST: usize = 4;
 
-// One block's part of the table: for each layer point in turn the sum of X_i·e_i.
-fn fill_part(t: &[i8], x: &[i32], q: i64, part: &mut [i32])
-    requires { ⌜ TableFor (natAbs q) (now t) × Base q × (natAbs q ≤ queryMost) × Sized 8 (2 ^ 24) (now x) × (length (now part) ≡ partSize (natAbs q)) ⌝ }
-    ensures { λ _. ⌜ now (part .exit) ≡ queryPart (natAbs q) (now (x .entry)) ⌝ }
+// How many entries the next group has where so many are left: eight, or all of them.
+fn group_size(left: usize) -> usize
+    ensures { λ r. ⌜ r ≡ min 8 left ⌝ }
 {
-    let w = lent::widen(x);
-    let values = q as u8;
-    let mut ds: [u8; 8] = [0; 8];
-    let mut i: usize = 0;
-    while i < part.len() {
-        let e = points::layer_point(t, &ds, q);
-        part[i] = inner::dot(&w, &e) as i32;
-        counting::count_up(&mut ds, values);
-        i = i + 1;
-    }
+    if left < 8 { left } else { 8 }
 }
 
-// Each of k blocks its own part of the lent table; the entries past the last stay as found.
-fn fill_parts(t: &[i8], x: &[i32], q: i64, k: usize, entries: &mut [i32])
-    requires { ⌜ TableFor (natAbs q) (now t) × Base q × (natAbs q ≤ queryMost) × Sized (8 * k) (2 ^ 24) (now x) × (partSize (natAbs q) * k ≤ length (now entries)) × (k ≤ 64) ⌝ }
-    ensures { λ _. ⌜ now (entries .exit) ≡ joined (map (queryPart (natAbs q)) (cut 8 k (now (x .entry)))) ++ drop (partSize (natAbs q) * k) (now (entries .entry)) ⌝ }
+// In each of k parts the n entries from the first on: the sums of the block's readings with the layer points l of these entries. All else stays as found.
+fn fill_group(
+    l: &[[i16; 8]; 8],
+    x: &[i32],
+    size: usize,
+    k: usize,
+    first: usize,
+    n: usize,
+    entries: &mut [i32],
+)
+    requires { ⌜ SizedColumns 8 (now l) × Sized (8 * k) (2 ^ 24) (now x) × (first + n ≤ size) × (n ≤ 8) × (size ≤ 65536) × (k ≤ 64) × (size * k ≤ length (now entries)) ⌝ }
+    ensures { λ _. ⌜ GroupFilled size first n (now (l .entry)) (now (x .entry)) (now (entries .entry)) k (now (entries .exit)) ⌝ }
 {
-    let size = parts::part_size(q);
-    let mut i: usize = 0;
-    while i < k {
-        let at = 8 * i;
+    let mut b: usize = 0;
+    while b < k {
+        let at = 8 * b;
         let end = at + 8;
-        let from = size * i;
-        let to = from + size;
-        fill_part(t, &x[at..end], q, &mut entries[from..to]);
-        i = i + 1;
+        let from = size * b + first;
+        let to = from + n;
+        slots::fill_slots(l, &x[at..end], &mut entries[from..to]);
+        b = b + 1;
     }
 }
 
-// The same, having the fixed table of layer points itself, once for all blocks.
+// The parts of k blocks at the front of the lent table, eight entries of each at a time, whose layer points are made once for all blocks. The entries past the last part stay as found.
 pub fn fill_blocks(x: &[i32], q: i64, k: usize, entries: &mut [i32])
     requires { ⌜ Base q × (natAbs q ≤ queryMost) × Sized (8 * k) (2 ^ 24) (now x) × (partSize (natAbs q) * k ≤ length (now entries)) × (k ≤ 64) ⌝ }
     ensures { λ _. ⌜ now (entries .exit) ≡ joined (map (queryPart (natAbs q)) (cut 8 k (now (x .entry)))) ++ drop (partSize (natAbs q) * k) (now (entries .entry)) ⌝ }
 {
-    if q == 2 {
-        fill_parts(&table::layer_points(), x, q, k, entries)
-    } else {
-        fill_parts(&[0; 1], x, q, k, entries)
+    let size = parts::part_size(q);
+    let values = q as u8;
+    let base = q as i16;
+    let mut ds: [u8; 8] = [0; 8];
+    let mut i: usize = 0;
+    while i < size {
+        let n = group_size(size - i);
+        let c = counting::counted(&mut ds, values, n);
+        let l = columns::layer_points(&c, base);
+        fill_group(&l, x, size, k, i, n, entries);
+        i = i + n;
     }
 }
 

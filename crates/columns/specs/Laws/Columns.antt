@@ -1,5 +1,6 @@
 -- Layers side by side: what writing one entry does to the columns, and that a layer's digits make a point of narrow coordinates.
 use mathlib.Core.Path.{_≡_, refl, sym, _∙_, ap, ap₂, subst}
+use mathlib.Core.Logic.{_≢_}
 use mathlib.Core.List.{List, [], _∷_, map, map-id}
 use Prim.Native.Nat.{ℕ, zero, suc, _+_, _<_, _≤_}
 use native.Mathlib.Omega.{arith}
@@ -45,8 +46,8 @@ module _ {A : Type 0} (blank : A) (l : List (List A)) (h : Square8 l) (j t : ℕ
   pub put-here : column blank t put ≡ set (column blank t l) j z
   put-here = map-set (λ (row : List A). getD row t blank) l j (set (getD l j []) t z) ∙ ap (set (column blank t l) j) (getD-set-same (getD l j []) t z blank (omega (arith, h .rows j hj)))
 
-  pub put-before : (u : ℕ) → u < t → column blank u put ≡ column blank u l
-  put-before u hu = map-set-same (λ (row : List A). getD row u blank) l j (set (getD l j []) t z) [] (getD-set-other (getD l j []) t u z blank (λ e. absurd (omega (arith, e))))
+  pub put-other : (u : ℕ) → u ≢ t → column blank u put ≡ column blank u l
+  put-other u ne = map-set-same (λ (row : List A). getD row u blank) l j (set (getD l j []) t z) [] (getD-set-other (getD l j []) t u z blank ne)
 
 -- ---- the layer points, column after column
 
@@ -74,8 +75,8 @@ module _ (q : ℕ) (c : List (List ℕ)) (t : ℕ) (ht : t < 8) (r : List ℤ) (
   pointing-none {l} h = record { before = h; filled = record { within = omega arith; long = length-map l _ ∙ h .square .long; same = refl } }
 
   pub pointing-more : {j : ℕ} {l : List (List ℤ)} → j < 8 → Pointing q c t r j l → Pointing q c t r (j + 1) (set l j (set (getD l j []) t («at» r j)))
-  pointing-more {j} {l} hj h = let b = h .before in let k = put-before (pos 0) l (b .square) j t hj ht («at» r j) in record {
-    before = record { within = b .within; square = put-square (pos 0) l (b .square) j t hj ht («at» r j); done = λ u hu. k u hu ∙ b .done u hu };
+  pointing-more {j} {l} hj h = let b = h .before in let k = put-other (pos 0) l (b .square) j t hj ht («at» r j) in record {
+    before = record { within = b .within; square = put-square (pos 0) l (b .square) j t hj ht («at» r j); done = λ u hu. k u (λ e. absurd (omega (arith, e))) ∙ b .done u hu };
     filled = subst (Filled (λ (x : ℤ). x) 8 r (j + 1)) (sym (put-here (pos 0) l (b .square) j t hj ht («at» r j))) (filled-more (λ (x : ℤ). x) 8 r long (pos 0) («at» r j) refl hj (h .filled));
   }
 

@@ -2,14 +2,15 @@
 use mathlib.Core.Path.{_≡_, refl, sym, _∙_, ap, ap₂, subst}
 use mathlib.Core.Bool.{Bool, true, false, cond}
 use mathlib.Core.List.{List, _∷_, _++_, append-nil}
-use Prim.Native.Nat.{ℕ, zero, suc, _+_, _*_, _/_, _%_, _<_, _≤_}
-use native.Mathlib.Nat.{div-add-mod, mod-lt, mod-eq-of-lt, div-eq-of-lt, zero-div, zero-mod, add-mul-div-left, add-mul-mod-self-left, mul-div-right, mul-mod-right}
+use Prim.Native.Nat.{ℕ, zero, suc, _+_, _*_, _/_, _%_, _^_, _<_, _≤_}
+use native.Mathlib.Decide.{decLe}
+use native.Mathlib.Nat.{mul-le-mul, le-refl, pow-zero, pow-succ', div-add-mod, mod-lt, mod-eq-of-lt, div-eq-of-lt, zero-div, zero-mod, add-mul-div-left, add-mul-mod-self-left, mul-div-right, mul-mod-right}
 use native.Mathlib.Omega.{arith}
 use borrow.Author.Tests.{ltb-true, ltb-false, lt-ltb, le-ltb}
 use lib.Dec.{ltb}
 use lib.ListN.{length, getD, take, drop, set, replicate, length-set, drop-of-length-le}
 use lib.Seq.{take-all, drop-cons, append-snoc, set-split, drop-set-lt, take-suc-set}
-use Rattle.layers.specs.Digits.{Below, digitsOf}
+use Rattle.layers.specs.Digits.{Below, entryOf, digitsOf}
 use Rattle.tables.specs.Tables.{countedUp}
 
 -- the digits of 0
@@ -42,6 +43,17 @@ counted-next q q> (suc n) i = go (ltb (suc (i % q)) q) (ltb-true (suc (i % q)) q
         → cond t (suc (i % q) ∷ digitsOf q n (i / q)) (0 ∷ countedUp q (digitsOf q n (i / q))) ≡ (suc i % q) ∷ digitsOf q n (suc i / q)
     go true f g next = let k = goes-up q q> i (f refl) in ap₂ (λ (d j : ℕ). d ∷ digitsOf q n j) (sym (k .0)) (sym (k .1))
     go false f g next = let k = carries q q> i (g refl) in ap (λ (l : List ℕ). 0 ∷ l) next ∙ ap₂ (λ (d j : ℕ). d ∷ digitsOf q n j) (sym (k .0)) (sym (k .1))
+
+-- the digits of a number below q^n have that number
+pub entryOf-digitsOf : (q : ℕ) → 0 < q → (n i : ℕ) → i < q ^ n → entryOf q (digitsOf q n i) ≡ i
+entryOf-digitsOf q q> zero i h = omega (arith, rw (pow-zero q) at h)
+entryOf-digitsOf q q> (suc n) i h = ap (λ (j : ℕ). i % q + q * j) (entryOf-digitsOf q q> n (i / q) (less (q ^ n) (i / q) (rw (pow-succ' q n) at h) (omega (arith, div-add-mod i q)))) ∙ omega (arith, div-add-mod i q)
+  where
+    less : (p j : ℕ) → i < q * p → q * j ≤ i → j < p
+    less p j h k = elim (decLe (suc j) p) [ yes x ↦ x | no x ↦ absurd (omega (arith, mul-le-mul (le-refl q) (not-less p j x))) ]
+      where
+        not-less : (p j : ℕ) → (suc j ≤ p → ⊥) → p ≤ j
+        not-less p j x = omega arith
 
 -- a walk that counts the digits o up in place: at the digit k those before it are done, and the rest is to be counted up
 pub record Carrying (q : ℕ) (o : List ℕ) (k : ℕ) (ds : List ℕ) : Type 0 where

@@ -97,15 +97,23 @@ module _ (q : ℕ) where
   unfolding queryPart
   queryPart-at X i h = from-zero (λ (i : ℕ). dot X (layerAt q i)) (partSize q) i h
 
+  -- parts in a row: their length
+  pub parts-long : (l : List (List ℤ)) → length (joined (map (queryPart q) l)) ≡ partSize q * length l
+  parts-long [] = omega arith
+  parts-long (x ∷ l) = simp length-append (omega (arith, queryPart-long x, parts-long l))
+
+  -- entry q^8 b + i of the parts of K blocks is the sum over block b and the layer point i, whatever follows them
+  pub parts-at : (K : ℕ) (X rest : List ℤ) (b i : ℕ) → b < K → i < partSize q → «at» (joined (map (queryPart q) (cut 8 K X)) ++ rest) (partSize q * b + i) ≡ dot (take 8 (drop (8 * b) X)) (layerAt q i)
+  parts-at K X rest b i h l = let n : ℕ = partSize q in let t : List ℤ = joined (map (queryPart q) (cut 8 K X)) ++ rest in
+      sym (getD-drop (n * b) t i (pos 0)) ∙ sym (getD-take n (drop (n * b) t) i (pos 0) l)
+      ∙ ap (λ (p : List ℤ). «at» p i) (part-made (queryPart q) n queryPart-long (cut 8 K X) rest b [] (omega (arith, cut-long 8 K X)) ∙ ap (queryPart q) (cut-at 8 K b X h))
+      ∙ queryPart-at (take 8 (drop (8 * b) X)) i l
+
   module _ (X : List ℤ) where
     -- the table has K·q^8 entries
     pub queryTable-long : length (queryTable q X) ≡ partSize q * (length X / 8)
     unfolding queryTable
-    queryTable-long = go (inBlocks X) ∙ ap (λ (n : ℕ). partSize q * n) (cut-long 8 (length X / 8) X)
-      where
-        go : (l : List (List ℤ)) → length (joined (map (queryPart q) l)) ≡ partSize q * length l
-        go [] = omega arith
-        go (x ∷ l) = simp length-append (omega (arith, queryPart-long x, go l))
+    queryTable-long = parts-long (inBlocks X) ∙ ap (λ (n : ℕ). partSize q * n) (cut-long 8 (length X / 8) X)
 
     -- the parts of its blocks, whatever follows the table
     pub queryTable-parts : (rest : List ℤ) → cut (partSize q) (length X / 8) (queryTable q X ++ rest) ≡ map (queryPart q) (inBlocks X)
@@ -116,10 +124,7 @@ module _ (q : ℕ) where
     -- entry q^8 k + i is the sum over block k and the layer point i
     pub queryTable-at : (rest : List ℤ) (k i : ℕ) → k < length X / 8 → i < partSize q → «at» (queryTable q X ++ rest) (partSize q * k + i) ≡ dot (take 8 (drop (8 * k) X)) (layerAt q i)
     unfolding queryTable
-    queryTable-at rest k i h l = let n : ℕ = partSize q in let t : List ℤ = joined (map (queryPart q) (inBlocks X)) ++ rest in
-        sym (getD-drop (n * k) t i (pos 0)) ∙ sym (getD-take n (drop (n * k) t) i (pos 0) l)
-        ∙ ap (λ (p : List ℤ). «at» p i) (part-made (queryPart q) n queryPart-long (inBlocks X) rest k [] (omega (arith, cut-long 8 (length X / 8) X)) ∙ ap (queryPart q) (cut-at 8 (length X / 8) k X h))
-        ∙ queryPart-at (take 8 (drop (8 * k) X)) i l
+    queryTable-at rest k i h l = parts-at (length X / 8) X rest k i h l
 
 -- ---- lengths that code calculates with
 
