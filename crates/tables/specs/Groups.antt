@@ -6,7 +6,7 @@ use Prim.Native.Nat.{ℕ, _+_, _*_, _<_, _≤_}
 use lib.IntN.{ℤ, pos}
 use lib.ListN.{length, take, drop}
 use Rattle.integers.specs.Vectors.{«at», dot, Bounded}
-use Rattle.layers.specs.Columns.{column, Square8}
+use Rattle.columns.specs.Columns.{column, Square8}
 
 -- c′ is c with ds for its column t
 pub record ColumnPut (t : ℕ) (ds : List ℕ) (c c′ : List (List ℕ)) : Type 0 where

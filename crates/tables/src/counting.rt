@@ -2,7 +2,7 @@
 ghost use mathlib.Core.Path.{_≡_};
 ghost use Prim.Native.Nat.{ℕ, _+_, _<_, _≤_};
 ghost use lib.ListN.{length};
-ghost use Rattle.layers.specs.Columns.{column, Square8, LayerColumns};
+ghost use Rattle.columns.specs.Columns.{column, Square8, LayerColumns};
 ghost use Rattle.layers.specs.Digits.{Below, IsLayer, entryOf, digitsOf};
 ghost use Rattle.tables.specs.Groups.{ColumnPut};
 ghost use Rattle.tables.specs.Tables.{countedUp};

@@ -19,7 +19,6 @@ ghost use Rattle.tables.specs.Tables.{queryMost, partSize, queryPart, qu
 use crate::counting;
 use crate::parts;
 use crate::slots;
-use layers::columns;
 use readings::words;
 use records::frames;
 use records::vectors;

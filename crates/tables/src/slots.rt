@@ -4,7 +4,7 @@ ghost use Prim.Native.Nat.{_^_, _<_, _≤_};
 ghost use lib.IntN.{pos};
 ghost use lib.ListN.{length};
 ghost use Rattle.integers.specs.Vectors.{dot, Sized};
-ghost use Rattle.layers.specs.Columns.{column};
+ghost use Rattle.columns.specs.Columns.{column};
 ghost use Rattle.tables.specs.Groups.{SizedColumns, ColumnDots};
 
 // The sum with the column t.

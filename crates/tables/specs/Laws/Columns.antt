@@ -10,9 +10,9 @@ use lib.ListN.{length, getD, set, replicate, length-map, length-set, getD-replic
 use lib.Seq.{getD-set-same, getD-set-other, ext-getD}
 use Rattle.integers.specs.Laws.Loops.{Filled, filled-more, filled-all, map-at}
 use Rattle.integers.specs.Vectors.{«at», dot}
-use Rattle.layers.specs.Columns.{column, Square8, LayerColumns}
+use Rattle.columns.specs.Columns.{column, Square8, LayerColumns}
 use Rattle.layers.specs.Digits.{IsLayer, digitsOf}
-use Rattle.layers.specs.Laws.Columns.{put-square, put-here, put-other}
+use Rattle.columns.specs.Laws.Columns.{put-square, put-here, put-other}
 use Rattle.layers.specs.Laws.Entries.{digitsOf-layer}
 use Rattle.tables.specs.Groups.{ColumnPut, ColumnDots}
 use Rattle.tables.specs.Laws.Counting.{digits-zero}

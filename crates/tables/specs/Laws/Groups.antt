@@ -11,7 +11,7 @@ use lib.IntN.{ℤ, pos}
 use lib.ListN.{length, take, drop, length-append, length-take, length-drop, List·getD-append}
 use lib.Seq.{getD-take, getD-drop, getD-append-add, length-take-le, ext-getD}
 use Rattle.integers.specs.Vectors.{«at», dot}
-use Rattle.layers.specs.Columns.{column}
+use Rattle.columns.specs.Columns.{column}
 use Rattle.layers.specs.Digits.{joined, cut}
 use Rattle.records.specs.Laws.Parts.{part-ends, cut-long}
 use Rattle.tables.specs.Groups.{ColumnDots, GroupFilled}

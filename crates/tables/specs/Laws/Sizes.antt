@@ -7,7 +7,7 @@ use lib.IntN.{ℤ, natAbs}
 use Rattle.integers.specs.Laws.Sums.{sized-more}
 use Rattle.integers.specs.Vectors.{«at», Sized}
 use Rattle.lattice.specs.Doubled.{E8}
-use Rattle.layers.specs.Columns.{column, LayerColumns, PointColumns}
+use Rattle.columns.specs.Columns.{column, LayerColumns, PointColumns}
 use Rattle.layers.specs.Digits.{digitsOf}
 use Rattle.layers.specs.E8.{e8, nearest}
 use Rattle.layers.specs.Laws.Entries.{digitsOf-layer}

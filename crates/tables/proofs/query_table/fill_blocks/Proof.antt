@@ -11,7 +11,7 @@ use mir.Syntax.{w16, w64}
 use mir.Val.{SFits, toZ, ofZ}
 use mir.Facts.{toZ-ofZ}
 use Rattle.integers.specs.Laws.Sizes.{fits-mag}
-use Rattle.layers.specs.Columns.{column, LayerColumns, PointColumns}
+use Rattle.columns.specs.Columns.{column, LayerColumns, PointColumns}
 use Rattle.layers.specs.Digits.{IsLayer, entryOf, digitsOf}
 use Rattle.layers.specs.E8.{layerPoint8}
 use Rattle.layers.specs.Sizes.{Base}

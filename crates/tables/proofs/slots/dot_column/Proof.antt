@@ -13,7 +13,7 @@ use mir.Facts.{toZ-ofZ}
 use Rattle.integers.specs.Vectors.{«at», dot, Bounded}
 use Rattle.integers.specs.Laws.Sizes.{fits-mag, abs-mul-le}
 use Rattle.integers.specs.Laws.Sums.{dot-take-suc, dot-bound}
-use Rattle.layers.specs.Columns.{column}
+use Rattle.columns.specs.Columns.{column}
 use Rattle.tables.specs.Laws.Columns.{column-at}
 use Rattle.tables.proofs.slots.dot_column.Statement.{statement}
 use Rattle.tables.proofs.slots.dot_column.Tie as tie
