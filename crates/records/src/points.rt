@@ -14,7 +14,7 @@ use layers::points;
 
 // The same eight numbers in 16 bits.
 fn narrow(e: &[i64; 8]) -> [i16; 8]
-    requires { ⌜ Sized 8 (2 ^ 15 - 1) (now e) ⌝ }
+    requires { ⌜ Sized 8 (2 ^ 14 - 1) (now e) ⌝ }
     ensures { λ r. ⌜ r ≡ now (e .entry) ⌝ }
 {
     let mut r: [i16; 8] = [0; 8];

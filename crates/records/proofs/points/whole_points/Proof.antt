@@ -4,7 +4,7 @@ use mathlib.Core.List.{List, [], _++_, map}
 use Prim.Native.Nat.{ℕ, _+_, _*_, _-_, _^_, _<_, _≤_}
 use native.Mathlib.Omega.{arith}
 use lib.IntN.{ℤ, natAbs}
-use lib.ListN.{length, take, drop, set, length-append, length-drop, length-map}
+use lib.ListN.{length, take, drop, set}
 use mir.Syntax.{w64}
 use mir.Val.{toZ}
 use mir.Facts.{toZ-ofZ}
@@ -12,8 +12,8 @@ use Rattle.integers.specs.Vectors.{Sized}
 use Rattle.layers.specs.Digits.{IsCode, cut}
 use Rattle.layers.specs.E8.{decode8}
 use Rattle.records.specs.Codes.{blockSize, wholePoint}
-use Rattle.records.specs.Laws.Parts.{part-ends, cut-long}
-use Rattle.records.specs.Laws.Points.{point-narrow, digits-part, rows-more}
+use Rattle.records.specs.Laws.Parts.{part-ends}
+use Rattle.records.specs.Laws.Points.{point-narrow, digits-part, rows-more, rows-long}
 use Rattle.records.proofs.points.whole_points.Statement.{statement}
 use Rattle.records.proofs.points.whole_points.Tie as tie
 
@@ -81,8 +81,8 @@ module _ (c : tie.After-decode Inv-loop μ-loop) where
   point-is : c .decode .result ≡ point (l b) (block b)
   point-is = c .decode .ensures ∙ ap₂ (λ (z : ℤ) (f : List ℕ). decode8 (natAbs z) (m (l b)) f) (toZ-ofZ (s (l b) .fits .q)) (digits-are b)
 
-  narrow-point : Sized 8 (2 ^ 15 - 1) (c .decode .result)
-  narrow-point = subst (Sized 8 (2 ^ 15 - 1)) (sym point-is) (point-narrow (s (l b) .args .q) (m (l b)) (s (l b) .pre .1) (block b) (is-code b))
+  narrow-point : Sized 8 (2 ^ 14 - 1) (c .decode .result)
+  narrow-point = subst (Sized 8 (2 ^ 14 - 1)) (sym point-is) (point-narrow (s (l b) .args .q) (m (l b)) (s (l b) .pre .1) (block b) (is-code b))
 
 module _ (c : tie.After-narrow Inv-loop μ-loop) where
   abbrev d : tie.After-decode Inv-loop μ-loop
@@ -99,8 +99,8 @@ module _ (c : tie.After-narrow Inv-loop μ-loop) where
       ap₂ (λ (r : List (List ℤ)) (e : List ℤ). set r (i t) e) (rows-are t) (c .narrow .ensures ∙ point-is d)
       ∙ rows-more (point t) (blockSize (m t)) (body t) (found t) (i t) [] room
 
-  rows-long : length (t .loop .rows) ≡ length (found t)
-  rows-long = ap length (rows-are t) ∙ simp (length-append, length-drop, length-map, cut-long) (omega (arith, room))
+  same-room : length (t .loop .rows) ≡ length (found t)
+  same-room = ap length (rows-are t) ∙ rows-long (point t) (blockSize (m t)) (body t) (found t) (i t) (omega (arith, room))
 
 block-size-requires : tie.Need-block-size-requires Inv-loop μ-loop
 block-size-requires c κs = omega (arith, c .before .pre .1 .few)
@@ -140,7 +140,7 @@ mul-t13 : tie.Need-mul-t13 Inv-loop μ-loop
 mul-t13 c = omega (arith, room c, s (t c) .pre .4)
 
 element-set-from-rows : tie.Need-element-set-from-rows Inv-loop μ-loop
-element-set-from-rows c = omega (arith, room c, rows-long c)
+element-set-from-rows c = omega (arith, room c, same-room c)
 
 add-i : tie.Need-add-i Inv-loop μ-loop
 add-i c = omega arith
