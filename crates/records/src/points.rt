@@ -6,7 +6,6 @@ ghost use lib.IntN.{natAbs};
 ghost use lib.ListN.{length, drop};
 ghost use Rattle.integers.specs.Vectors.{Sized};
 ghost use Rattle.layers.specs.Digits.{cut};
-ghost use Rattle.layers.specs.Sizes.{Base};
 ghost use Rattle.layers.specs.Table.{TableFor};
 ghost use Rattle.records.specs.Codes.{Digital, AreCodes, blockSize, wholePoint};
 use crate::codes;
