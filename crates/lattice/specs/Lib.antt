@@ -6,4 +6,5 @@ pub mod Answers
 pub mod Basis
 pub mod Rounding
 pub mod Pass
+pub mod Narrow
 pub mod Laws

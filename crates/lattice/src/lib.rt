@@ -4,6 +4,7 @@ mod coordinate;
 mod half;
 pub mod lent;
 pub mod member;
+pub mod narrow;
 pub mod point;
 
 ghost use mathlib.Core.Path.{_≡_};

@@ -41,6 +41,10 @@ abbrev pub entryOf : ℕ → List ℕ → ℕ
 entryOf q [] = 0
 entryOf q (d ∷ ds) = d + q * entryOf q ds
 
+-- 1, q, q² and q³ as one word, a byte each, the first greatest: what gathers an entry number of four digits
+abbrev pub powers : ℕ → ℕ
+powers q = 16777216 + 65536 * q + 256 * (q * q) + q * q * q
+
 -- the n digits of the entry number i
 abbrev pub digitsOf : ℕ → ℕ → ℕ → List ℕ
 digitsOf q zero i = []

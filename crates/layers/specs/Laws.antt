@@ -12,4 +12,5 @@ pub mod Loops
 pub mod Bases
 pub mod E8
 pub mod Table
+pub mod Columns
 pub mod Asked

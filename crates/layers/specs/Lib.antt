@@ -6,5 +6,6 @@ pub mod Sums
 pub mod Sizes
 pub mod E8
 pub mod Table
+pub mod Columns
 pub mod Answers
 pub mod Laws

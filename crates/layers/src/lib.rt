@@ -1,5 +1,6 @@
 // Points of E8 in layers of digits, and back (01, Layers and steps).
 pub mod asked;
+pub mod columns;
 pub mod digits;
 pub mod lookup;
 pub mod points;

@@ -1,8 +1,8 @@
 // A layer looked up in a table, by the number that its digits make.
 ghost use mathlib.Core.Path.{_≡_};
-ghost use Prim.Native.Nat.{_^_, _<_, _≤_};
-ghost use lib.ListN.{length};
-ghost use Rattle.layers.specs.Digits.{Below, IsLayer, entryOf};
+ghost use Prim.Native.Nat.{_+_, _<_, _≤_};
+ghost use lib.ListN.{length, take, drop};
+ghost use Rattle.layers.specs.Digits.{Below, IsLayer, entryOf, powers};
 ghost use Rattle.layers.specs.E8.{layerPoint8};
 ghost use Rattle.layers.specs.Table.{layerTable};
 
@@ -12,18 +12,36 @@ fn wide(d: u8) -> usize
     d as usize
 }
 
+// Four digits as one word, a byte each, the first least.
+fn four(ds: &[u8], at: usize) -> usize
+    requires { ⌜ at + 4 ≤ length (now ds) ⌝ }
+    ensures { λ r. ⌜ r ≡ entryOf 256 (take 4 (drop at (now (ds .entry)))) ⌝ }
+{
+    wide(ds[at]) + 256 * wide(ds[at + 1]) + 65536 * wide(ds[at + 2]) + 16777216 * wide(ds[at + 3])
+}
+
+// The powers of q as one word, a byte each, the first greatest.
+fn powers(q: usize) -> usize
+    requires { ⌜ q ≤ 4 ⌝ }
+    ensures { λ r. ⌜ r ≡ powers q ⌝ }
+{
+    16777216 + 65536 * q + 256 * (q * q) + q * q * q
+}
+
+// The entry number of four digits: the product of the two words has it in its fourth byte, since nothing is carried there.
+fn half_number(ds: &[u8], at: usize, q: usize) -> usize
+    requires { ⌜ (at + 4 ≤ length (now ds)) × (q ≤ 4) × Below q (now ds) ⌝ }
+    ensures { λ r. ⌜ (r ≡ entryOf q (take 4 (drop at (now (ds .entry))))) × (r < 256) ⌝ }
+{
+    four(ds, at) * powers(q) / 16777216 % 256
+}
+
 // The entry number of a layer's digits, the first digit least.
 pub fn entry_number(ds: &[u8], q: usize) -> usize
-    requires { ⌜ Below q (now ds) × (q ^ length (now ds) ≤ 2 ^ 32) ⌝ }
+    requires { ⌜ IsLayer 8 q (now ds) × (q ≤ 4) ⌝ }
     ensures { λ r. ⌜ r ≡ entryOf q (now (ds .entry)) ⌝ }
 {
-    let mut n: usize = 0;
-    let mut i = ds.len();
-    while i > 0 {
-        i = i - 1;
-        n = wide(ds[i]) + q * n;
-    }
-    n
+    half_number(ds, 0, q) + q * q * q * q * half_number(ds, 4, q)
 }
 
 // Eight signed bytes as numbers.

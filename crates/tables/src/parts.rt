@@ -5,10 +5,13 @@ ghost use lib.IntN.{natAbs};
 ghost use Rattle.layers.specs.Sizes.{Base};
 ghost use Rattle.tables.specs.Tables.{queryMost, partSize};
 
-// The entries of one part: q^8.
+// The entries of one part: q^8, squared from q three times.
 pub(crate) fn part_size(q: i64) -> usize
     requires { ⌜ Base q × (natAbs q ≤ queryMost) ⌝ }
     ensures { λ r. ⌜ r ≡ partSize (natAbs q) ⌝ }
 {
-    integers::power(q as u64, 8) as usize
+    let one = q as usize;
+    let two = one * one;
+    let four = two * two;
+    four * four
 }

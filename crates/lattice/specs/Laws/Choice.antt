@@ -187,30 +187,42 @@ less-small s h k l = omega (arith, abs-sub s (pos (k / 16)), h .most)
 pub mend-small : (s : ℤ) → Divisor s → (k : ℕ) → k ≤ 2 ^ 20 → natAbs (pos 4 *ℤ s *ℤ (s -ℤ pos (k / 16))) ≤ 2 ^ 33
 mend-small s h k l = omega (arith, abs-mul-le (pos 4 *ℤ s) (s -ℤ pos (k / 16)) (four-small s h) (less-small s h k l))
 
-pub mended-small : (s : ℤ) → Divisor s → (k : ℕ) → k ≤ 2 ^ 20 → (b : Bool) → Small (mended s k b)
-unfolding mended
-mended-small s h k l true = record { step = go (ltb (k % 16) 8); cost = omega (arith, mend-small s h k l) }
-  where
-    go : (b : Bool) → natAbs (cond b (pos 2) (negsuc 1)) ≤ 2
-    go true = omega arith
-    go false = omega arith
-mended-small s h k l false = record { step = omega arith; cost = omega arith }
+-- a mend, where that is at most B
+module _ (B : ℕ) (s : ℤ) (k : ℕ) (h : natAbs (pos 4 *ℤ s *ℤ (s -ℤ pos (k / 16))) ≤ B) where
+  pub mended-bound : (b : Bool) → (natAbs (mended s k b .step) ≤ 2) × (natAbs (mended s k b .cost) ≤ B)
+  unfolding mended
+  mended-bound true = (go (ltb (k % 16) 8), h)
+    where
+      go : (b : Bool) → natAbs (cond b (pos 2) (negsuc 1)) ≤ 2
+      go true = omega arith
+      go false = omega arith
+  mended-bound false = (omega arith, omega arith)
 
-pub first-small : (m : Mend) → Small m → natAbs (first m) ≤ 2
+pub mended-small : (s : ℤ) → Divisor s → (k : ℕ) → k ≤ 2 ^ 20 → (b : Bool) → Small (mended s k b)
+mended-small s h k l b = let m = mended-bound (2 ^ 33) s k (mend-small s h k l) b in record { step = m .0; cost = omega (arith, m .1) }
+
+pub first-small : (m : Mend) → natAbs (m .step) ≤ 2 → natAbs (first m) ≤ 2
 first-small m h = go (eqb (m .place) 0)
   where
     go : (b : Bool) → natAbs (cond b (m .step) (pos 0)) ≤ 2
-    go true = h .step
+    go true = h
     go false = omega arith
+
+module _ (B : ℕ) (a b : ℤ) (x y : Mend) (h : natAbs a + natAbs (x .cost) + (natAbs b + natAbs (y .cost)) ≤ B) where
+  pub apart-bound : natAbs ((a +ℤ x .cost) -ℤ (b +ℤ y .cost)) ≤ B
+  apart-bound = omega (arith, abs-sub (a +ℤ x .cost) (b +ℤ y .cost), abs-add a (x .cost), abs-add b (y .cost))
+
+  pub lead-bound : (w : ℤ) → natAbs (lead a b x y w) ≤ 1 + 2 * B
+  unfolding lead
+  lead-bound w = let z : ℤ = (a +ℤ x .cost) -ℤ (b +ℤ y .cost) in let t : Bool = ltZ (first x) (w +ℤ first y) in
+      omega (arith, abs-sub (cond t (pos 1) (pos 0)) (pos 2 *ℤ z), abs-mul (pos 2) z, apart-bound, bit-small t)
 
 module _ (a b : ℤ) (x y : Mend) (h : natAbs a ≤ 2 ^ 40) (l : natAbs b ≤ 2 ^ 40) (p : Small x) (q : Small y) where
   pub apart-small : natAbs ((a +ℤ x .cost) -ℤ (b +ℤ y .cost)) ≤ 2 ^ 42
-  apart-small = omega (arith, abs-sub (a +ℤ x .cost) (b +ℤ y .cost), abs-add a (x .cost), abs-add b (y .cost), p .cost, q .cost)
+  apart-small = apart-bound (2 ^ 42) a b x y (omega (arith, p .cost, q .cost))
 
   pub lead-small : (w : ℤ) → natAbs (lead a b x y w) ≤ 2 ^ 62
-  unfolding lead
-  lead-small w = let z : ℤ = (a +ℤ x .cost) -ℤ (b +ℤ y .cost) in let t : Bool = ltZ (first x) (w +ℤ first y) in
-      omega (arith, abs-sub (cond t (pos 1) (pos 0)) (pos 2 *ℤ z), abs-mul (pos 2) z, apart-small, bit-small t)
+  lead-small w = omega (arith, lead-bound (2 ^ 42) a b x y (omega (arith, p .cost, q .cost)) w)
 
 -- ---- the doubled entries
 

@@ -56,18 +56,18 @@ module _ (s : ℤ) (f r : List ℤ) where
 
   -- how large the sums are
   module _ (F R : ℕ) (hf : Bounded F f) (hr : Bounded R r) where
-    keys-bound : (n : ℕ) → n ≤ 8 → scanned s n f r .keys ≤ n * (16 * R + 15)
+    pub keys-bound : (n : ℕ) → n ≤ 8 → scanned s n f r .keys ≤ n * (16 * R + 15)
     unfolding scanned
     keys-bound zero h = omega arith
     keys-bound (suc n) h = omega (arith, keys-bound n (omega arith), key-small n («at» r n) (omega arith) .1, hr n)
 
-    sum-bounded : (n : ℕ) → natAbs (scanned s n f r .sum) ≤ n * F
+    pub sum-bounded : (n : ℕ) → natAbs (scanned s n f r .sum) ≤ n * F
     sum-bounded n = rw (scan-sum n) (sum-bound F f hf n)
 
-    even-bound : (n : ℕ) → natAbs (scanned s n f r .even) ≤ n * (R * R)
+    pub even-bound : (n : ℕ) → natAbs (scanned s n f r .even) ≤ n * (R * R)
     even-bound n = rw (scan-even n) (dot-bound R R r r hr hr n)
 
-    odd-bound : (n : ℕ) → natAbs (scanned s n f r .odd) ≤ n * ((R + natAbs s) * (R + natAbs s))
+    pub odd-bound : (n : ℕ) → natAbs (scanned s n f r .odd) ≤ n * ((R + natAbs s) * (R + natAbs s))
     unfolding scanned
     odd-bound zero = omega arith
     odd-bound (suc n) = let x : ℤ = lowered s («at» r n) in let l : natAbs x ≤ R + natAbs s = omega (arith, lowered-small s («at» r n), hr n) in

@@ -1,15 +1,14 @@
--- What loops have done after i turns: those that write b over lent bytes o, those over digits, those over layers.
+-- What loops have done after i turns: those that write b over lent bytes o, those over layers.
 use mathlib.Core.Path.{_≡_, refl, sym, _∙_, ap, ap₂, subst}
-use mathlib.Core.List.{List, [], _∷_, _++_, append-nil, append-assoc}
+use mathlib.Core.List.{List, [], _++_, append-nil, append-assoc}
 use Prim.Native.Nat.{ℕ, zero, suc, _+_, _*_, _-_, _<_, _≤_}
-use native.Mathlib.Nat.{mul-le-mul, le-refl}
 use native.Mathlib.Numerals.{add-one}
 use native.Mathlib.Omega.{arith}
 use lib.IntN.{ℤ, pos}
 use lib.ListN.{length, getD, take, drop, set, length-take, length-drop, drop-of-length-le}
 use lib.Seq.{take-at, drop-at, drop-cons, drop-drop, take-suc, set-at, append-snoc, length-take-le}
 use Rattle.integers.specs.Vectors.{addV, scaleV}
-use Rattle.layers.specs.Digits.{IsLayer, joined, IsCode, cut, entryOf}
+use Rattle.layers.specs.Digits.{IsLayer, joined, IsCode, cut}
 use Rattle.layers.specs.Laws.Rows.{below-drop, cut-layers}
 use Rattle.layers.specs.Laws.Weights.{decode-next}
 use Rattle.layers.specs.Layers.{layerDigits, digits, leftover, layerPoint, decode}
@@ -38,16 +37,6 @@ module _ {A : Type 0} where
       let x : List A = w ++ drop a o in
       let none : drop k (take k (drop a x)) ≡ [] = drop-of-length-le (take k (drop a x)) {i = k} (simp length-take (omega arith)) in
       ap (λ (f : List A). take a x ++ (f ++ drop k (drop a x))) (ap (λ (g : List A). b ++ g) none ∙ append-nil b) ∙ write-in w b o a k h
-
--- an entry number is made from the last digit to the first
-module _ (q : ℕ) (ds : List ℕ) where
-  pub entryOf-next : (i : ℕ) → i < length ds → entryOf q (drop i ds) ≡ getD ds i 0 + q * entryOf q (drop (suc i) ds)
-  entryOf-next i h = ap (entryOf q) (drop-cons ds i 0 h)
-
-pub entryOf-drop : (q : ℕ) → 0 < q → (i : ℕ) (ds : List ℕ) → entryOf q (drop i ds) ≤ entryOf q ds
-entryOf-drop q q> zero ds = omega arith
-entryOf-drop q q> (suc i) [] = omega arith
-entryOf-drop q q> (suc i) (d ∷ ds) = omega (arith, entryOf-drop q q> i ds, mul-le-mul q> (le-refl (entryOf q ds)))
 
 -- a coder goes up: after k layers it holds what they leave over, and has written their digits
 module _ (L : Lattice) (R : Rule L) (q : ℕ) where

@@ -1,18 +1,19 @@
 -- What stands where in the tables: their lengths, the entry of each number, the part of each block.
 use mathlib.Core.Path.{_≡_, refl, sym, _∙_, ap, ap₂, subst}
 use mathlib.Core.List.{List, [], _∷_, _++_, map}
-use Prim.Native.Nat.{ℕ, zero, suc, _+_, _*_, _-_, _/_, _^_, _<_, _≤_}
+use Prim.Native.Nat.{ℕ, zero, suc, _+_, _*_, _-_, _/_, _<_, _≤_}
 use native.Mathlib.Nat.{pow-le-pow-left}
 use native.Mathlib.Numerals.{add-one}
 use native.Mathlib.Omega.{arith}
 use lib.IntN.{ℤ, pos}
 use lib.ListN.{length, take, drop, length-append, length-map, List·getD-append}
+use lib.Pow.{pow-add}
 use lib.Seq.{getD-take, getD-drop, drop-drop}
 use Rattle.integers.specs.Laws.Loops.{range, range-long, range-at}
 use Rattle.integers.specs.Vectors.{«at», dot}
 use Rattle.layers.specs.Digits.{IsLayer, joined, cut, entryOf}
 use Rattle.layers.specs.E8.{layerPoint8}
-use Rattle.layers.specs.Laws.Entries.{entryOf-less, digitsOf-entryOf, row-at, rows-long}
+use Rattle.layers.specs.Laws.Entries.{entryOf-less, pow-four, digitsOf-entryOf, row-at, rows-long}
 use Rattle.records.specs.Laws.Parts.{cut-long, cut-at, cut-made, part-made, joined-more}
 use Rattle.records.specs.Vectors.{inBlocks}
 use Rattle.scores.specs.Scores.{inner}
@@ -127,10 +128,10 @@ pub part-most : (q : ℕ) → q ≤ queryMost → partSize q ≤ 65536
 unfolding partSize
 part-most q h = pow-le-pow-left h 8
 
--- and the entry number of a layer is made within 32 bits
-pub layer-power-small : (q : ℕ) → q ≤ queryMost → (ds : List ℕ) → IsLayer 8 q ds → q ^ length ds ≤ 2 ^ 32
+-- they are as many as q squared three times
+pub part-squares : (q : ℕ) → q * q * (q * q) * (q * q * (q * q)) ≡ partSize q
 unfolding partSize
-layer-power-small q h ds k = rw (k .long) (omega (arith, part-most q h))
+part-squares q = sym (pow-add q 4 4 ∙ ap₂ _*_ (pow-four q) (pow-four q))
 
 -- layer i of a block, whose first byte is T
 pub block-layer : (b : List ℕ) (i : ℕ) → take (8 * i + 1 + 8 - (8 * i + 1)) (drop (8 * i + 1) b) ≡ take 8 (drop (8 * i) (drop 1 b))

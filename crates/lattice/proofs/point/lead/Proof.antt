@@ -53,7 +53,7 @@ module _ (c : tie.Start) where
   f2z = fits-abs _ (omega (arith, abs-mul (pos 2) z, apart-small a b x y (c .pre .0) (c .pre .1) (c .pre .2) (c .pre .3)))
 
   fw : SFits w64 (way +ℤ first y)
-  fw = fits-add way (first y) (omega (arith, first-small y (c .pre .3), c .pre .4))
+  fw = fits-add way (first y) (omega (arith, first-small y (c .pre .3 .step), c .pre .4))
 
   fl : SFits w64 (lead a b x y way)
   fl = fits-abs _ (omega (arith, lead-small a b x y (c .pre .0) (c .pre .1) (c .pre .2) (c .pre .3) way))

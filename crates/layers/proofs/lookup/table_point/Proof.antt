@@ -29,7 +29,7 @@ module _ (c : tie.After-entry-number) where
   long = ap length (s .pre .0) ∙ table-long
 
 entry-number-requires : tie.Need-entry-number-requires
-entry-number-requires c κs = let h = c .before .pre .1 in (h .below, rw (h .long) (omega arith))
+entry-number-requires c κs = (c .before .pre .1, omega arith)
 
 mul-at : tie.Need-mul-at
 mul-at c = omega (arith, small c)

@@ -16,7 +16,7 @@ use Rattle.layers.specs.Laws.Rows.{cut-layers}
 use Rattle.records.specs.Codes.{stepOf}
 use Rattle.records.specs.Laws.Parts.{rest-whole}
 use Rattle.scores.specs.Laws.Sizes.{step-small}
-use Rattle.tables.specs.Laws.Entries.{entry-within, layer-power-small, block-layer}
+use Rattle.tables.specs.Laws.Entries.{entry-within, block-layer}
 use Rattle.tables.specs.Laws.Rows.{entries-below, row-sum-is}
 use Rattle.tables.specs.Laws.Sums.{powerSum, Summed, summed-none, summed-more, summed-most, summed-all, terms, terms-long, terms-at, pair-power, two-power}
 use Rattle.tables.specs.Scoring.{pairEntry, blockPairBy}
@@ -243,7 +243,7 @@ part-entry-number-end : tie.Need-part-entry-number-end Inv-loop μ-loop
 part-entry-number-end c = omega (arith, ends c)
 
 entry-number-requires : tie.Need-entry-number-requires Inv-loop μ-loop
-entry-number-requires c κs = let k = c .before in let d = subst (IsLayer 8 2) (sym (block-layer (b (o k)) (j k))) (layer k) in (d .below, layer-power-small 2 (omega arith) _ d)
+entry-number-requires c κs = let k = c .before in (subst (IsLayer 8 2) (sym (block-layer (b (o k)) (j k))) (layer k), omega arith)
 
 mul-from : tie.Need-mul-from Inv-loop μ-loop
 mul-from c = omega (arith, n-within c)

@@ -6,7 +6,6 @@ use native.Mathlib.Omega.{arith}
 use lib.ListN.{length, take, drop, set, length-set}
 use Rattle.layers.specs.Digits.{IsLayer, cut, entryOf}
 use Rattle.layers.specs.Laws.Loops.{code-layer}
-use Rattle.tables.specs.Laws.Entries.{layer-power-small}
 use Rattle.tables.specs.Laws.Rows.{entries-more}
 use Rattle.tables.proofs.pair_score.entry_numbers.Statement.{statement}
 use Rattle.tables.proofs.pair_score.entry_numbers.Tie as tie
@@ -59,7 +58,7 @@ part-entry-number-end : tie.Need-part-entry-number-end Inv-loop μ-loop
 part-entry-number-end c = omega (arith, ends c)
 
 entry-number-requires : tie.Need-entry-number-requires Inv-loop μ-loop
-entry-number-requires c κs = let k = c .before in (layer k .below, layer-power-small 2 (omega arith) _ (layer k))
+entry-number-requires c κs = (layer (c .before), omega arith)
 
 mul-numbers : tie.Need-mul-numbers Inv-loop μ-loop
 mul-numbers c = omega (arith, s (c .before .before) .pre .0, c .before .before .loop-test .taken)

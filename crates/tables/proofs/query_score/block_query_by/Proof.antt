@@ -16,7 +16,7 @@ use Rattle.layers.specs.Digits.{IsLayer, cut, entryOf}
 use Rattle.layers.specs.Laws.Bases.{base-is, base-two}
 use Rattle.layers.specs.Laws.Loops.{code-layer}
 use Rattle.scores.specs.Laws.Sizes.{step-small}
-use Rattle.tables.specs.Laws.Entries.{entry-within, part-most, layer-power-small, block-layer}
+use Rattle.tables.specs.Laws.Entries.{entry-within, part-most, block-layer}
 use Rattle.tables.specs.Laws.Sums.{Summed, summed-none, summed-more, summed-most, summed-all, terms, terms-long, terms-at, layer-power, read-small}
 use Rattle.tables.specs.Scoring.{blockQueryBy}
 use Rattle.tables.proofs.query_score.block_query_by.Statement.{statement}
@@ -185,7 +185,7 @@ part-entry-number-end : tie.Need-part-entry-number-end Inv-loop μ-loop
 part-entry-number-end c = omega (arith, ends c)
 
 entry-number-requires : tie.Need-entry-number-requires Inv-loop μ-loop
-entry-number-requires c κs = let k = c .before in let t = l k in simp (toZ-ofZ, s t .fits .q) (layer k .below, layer-power-small (q t) (s t .pre .2) _ (layer k))
+entry-number-requires c κs = let k = c .before in let t = l k in simp (toZ-ofZ, s t .fits .q) (layer k, s t .pre .2)
 
 mul-z : tie.Need-mul-z Inv-loop μ-loop
 mul-z c = let t = l (k c) in omega (arith, n-within c, s t .pre .3, part-most (q t) (s t .pre .2))
