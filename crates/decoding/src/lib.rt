@@ -1,19 +1,19 @@
 // From codes to readings: a code record decoded into an fvecs record (01, Layers and steps; Bytes).
 ghost use mathlib.Core.Path.{_≡_};
 ghost use mathlib.Core.List.{_++_, map};
-ghost use Prim.Native.Nat.{_*_, _<_, _≤_};
+ghost use Prim.Native.Nat.{_*_, _≤_};
 ghost use lib.IntN.{natAbs};
-ghost use lib.ListN.{length, getD, drop};
+ghost use lib.ListN.{length, drop};
 ghost use Rattle.layers.specs.Digits.{joined, cut};
 ghost use Rattle.layers.specs.Table.{TableFor};
-ghost use Rattle.records.specs.Codes.{Coder, IsBlock, AreBlocks, blockSize, blocksIn, codeBlocks, stepOf};
+ghost use Rattle.records.specs.Codes.{Coder, AreBlocks, blockSize, blocksIn, codeBlocks};
 ghost use Rattle.decoding.specs.Decode.{Readable, readingBytes, decodedBytes, fvecsLength, decodedRecord, checkDecode, decoded, decodedRoom};
-use layers::points;
 use layers::table;
 use readings::words;
 use records::asked;
 use records::codes;
 use records::frames;
+use records::points;
 use refusals::Answer;
 use refusals::Refusal;
 use refusals::Verdict;
@@ -21,32 +21,24 @@ use refusals::settings;
 use refusals::settings::Settings;
 
 // Eight decoded readings s·e/2048 as their binary32 patterns, little-endian.
-fn put_readings(s: i64, e: &[i64; 8], out: &mut [u8])
+fn put_readings(s: i64, e: &[i16; 8], out: &mut [u8])
     requires { ⌜ Readable s (now e) × (length (now out) ≡ 32) ⌝ }
     ensures { λ _. ⌜ now (out .exit) ≡ joined (map (readingBytes s) (now (e .entry))) ⌝ }
 {
     let mut i: usize = 0;
     while i < 8 {
-        words::put_decoded(out, 4 * i, s, e[i]);
+        words::put_decoded(out, 4 * i, s, e[i] as i64);
         i = i + 1;
     }
 }
 
-// One coded block, decoded into its 32 bytes.
-fn put_block(t: &[i8], steps: &[i32], b: &[u8], q: i64, m: usize, out: &mut [u8])
-    requires { ⌜ TableFor (natAbs q) (now t) × Coder q m (now steps) × IsBlock (length (now steps)) (natAbs q) m (now b) × (length (now out) ≡ 32) ⌝ }
-    ensures { λ _. ⌜ now (out .exit) ≡ decodedBytes (natAbs q) m (now (steps .entry)) (now (b .entry)) ⌝ }
-{
-    let s = codes::step_of(steps, b);
-    let e = points::decode(t, &b[1..], q, m);
-    put_readings(s, &e, out)
-}
-
 // The first k blocks of a record's body, decoded each into its own part of the lent bytes; the rest stay as found.
 fn put_blocks(t: &[i8], steps: &[i32], body: &[u8], q: i64, m: usize, k: usize, out: &mut [u8])
-    requires { ⌜ TableFor (natAbs q) (now t) × Coder q m (now steps) × AreBlocks (length (now steps)) (natAbs q) m k (now body) × (32 * k ≤ length (now out)) ⌝ }
+    requires { ⌜ TableFor (natAbs q) (now t) × Coder q m (now steps) × AreBlocks (length (now steps)) (natAbs q) m k (now body) × (k ≤ 64) × (32 * k ≤ length (now out)) ⌝ }
     ensures { λ _. ⌜ now (out .exit) ≡ joined (map (decodedBytes (natAbs q) m (now (steps .entry))) (cut (blockSize m) k (now (body .entry)))) ++ drop (32 * k) (now (out .entry)) ⌝ }
 {
+    let mut rows: [[i16; 8]; 64] = [[0; 8]; 64];
+    points::whole_points(t, body, q, m, k, &mut rows);
     let n = codes::block_size(m);
     let mut i: usize = 0;
     while i < k {
@@ -54,14 +46,15 @@ fn put_blocks(t: &[i8], steps: &[i32], body: &[u8], q: i64, m: usize, k: usize, 
         let end = at + n;
         let from = 32 * i;
         let to = from + 32;
-        put_block(t, steps, &body[at..end], q, m, &mut out[from..to]);
+        let s = codes::step_of(steps, &body[at..end]);
+        put_readings(s, &rows[i], &mut out[from..to]);
         i = i + 1;
     }
 }
 
 // The same, having the table itself, once for all blocks.
 fn put_body(steps: &[i32], body: &[u8], q: i64, m: usize, k: usize, out: &mut [u8])
-    requires { ⌜ Coder q m (now steps) × AreBlocks (length (now steps)) (natAbs q) m k (now body) × (32 * k ≤ length (now out)) ⌝ }
+    requires { ⌜ Coder q m (now steps) × AreBlocks (length (now steps)) (natAbs q) m k (now body) × (k ≤ 64) × (32 * k ≤ length (now out)) ⌝ }
     ensures { λ _. ⌜ now (out .exit) ≡ joined (map (decodedBytes (natAbs q) m (now (steps .entry))) (cut (blockSize m) k (now (body .entry)))) ++ drop (32 * k) (now (out .entry)) ⌝ }
 {
     if q == 2 {

@@ -16,7 +16,7 @@ use Rattle.refusals.specs.declared.Refusal.the-variants.{Byte, Record}
 use Rattle.refusals.specs.declared.Verdict.{Verdict}
 use Rattle.refusals.specs.declared.Verdict.the-variants.{Accepted, Refused}
 use Rattle.refusals.specs.Laws.Allowed.{AllowedSteps}
-use Rattle.refusals.specs.Limits.{mMost, powerMost}
+use Rattle.refusals.specs.Limits.{qMost, mMost, powerMost}
 use Rattle.refusals.specs.Verdicts.{unless, firstRefusal}
 use Rattle.records.specs.Frames.{goodRecord}
 
@@ -58,9 +58,17 @@ checkBlocks steps q n i (b ∷ l) = firstRefusal (checkBlock steps q i b ∷ che
 
 -- ---- what the code relies on, once checked
 
--- q, m and a step list within their limits
+-- q and m within their limits
+pub record Digital (q : ℤ) (m : ℕ) : Type 0 where
+  pub base : Base q
+  pub digit : natAbs q ≤ qMost
+  pub few : m ≤ mMost
+  pub power : natAbs q ^ m ≤ powerMost
+
+-- q, m and a step list
 pub record Coder (q : ℤ) (m : ℕ) (steps : List ℤ) : Type 0 where
   pub base : Base q
+  pub digit : natAbs q ≤ qMost
   pub few : m ≤ mMost
   pub power : natAbs q ^ m ≤ powerMost
   pub listed : AllowedSteps steps
@@ -75,3 +83,8 @@ pub record IsBlock (steps q m : ℕ) (b : List ℕ) : Type 0 where
 pub record AreBlocks (steps q m k : ℕ) (f : List ℕ) : Type 0 where
   pub long : blockSize m * k ≤ length f
   pub each : (i : ℕ) → i < k → IsBlock steps q m (take (blockSize m) (drop (blockSize m * i) f))
+
+-- of each, the digits alone
+pub record AreCodes (q m k : ℕ) (f : List ℕ) : Type 0 where
+  pub long : blockSize m * k ≤ length f
+  pub each : (i : ℕ) → i < k → IsCode 8 q m (drop 1 (take (blockSize m) (drop (blockSize m * i) f)))

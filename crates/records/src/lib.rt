@@ -1,5 +1,6 @@
-// Records of readings and of codes: their frames, their readings, and the one check of a code record (01, Bytes).
+// Records of readings and of codes: their frames, their readings, the one check of a code record, and its points (01, Bytes).
 pub mod asked;
 pub mod codes;
 pub mod frames;
+pub mod points;
 pub mod vectors;

@@ -1,16 +1,17 @@
 -- Scores: inner products of the points of two records, and of readings with the points of one (01, Scores).
 use mathlib.Core.List.{List, [], _∷_}
-use Prim.Native.Nat.{ℕ}
+use Prim.Native.Nat.{ℕ, _-_, _^_, _<_, _≤_}
 use lib.IntN.{ℤ, pos, natAbs, _+ℤ_, _*ℤ_}
-use lib.ListN.{length}
+use lib.ListN.{length, getD}
 use Rattle.integers.specs.Floor.{floorDiv}
-use Rattle.integers.specs.Vectors.{dot}
+use Rattle.integers.specs.Vectors.{dot, Sized}
 use Rattle.records.specs.Codes.{blockSize, blocksIn, codeBlocks, checkFrame, checkBlocks, stepOf, wholePoint}
 use Rattle.records.specs.Vectors.{Hour, checkReadings, unitsTaken, blocksOf, inBlocks}
 use Rattle.refusals.specs.declared.Answer.{Answer}
 use Rattle.refusals.specs.declared.settings.Settings.{Settings}
 use Rattle.refusals.specs.declared.Verdict.{Verdict}
 use Rattle.refusals.specs.Answers.{valued}
+use Rattle.refusals.specs.Laws.Allowed.{AllowedSteps}
 use Rattle.refusals.specs.Limits.{blocksMost}
 use Rattle.refusals.specs.Settings.{checkSettings}
 use Rattle.refusals.specs.Steps.{checkSteps}
@@ -61,3 +62,12 @@ pairScore c steps b steps′ b′ = valued (checkPair c steps b steps′ b′) (
 
 unfoldable pub queryScore : Settings → List ℤ → Hour → List ℕ → Answer
 queryScore c steps h b = valued (checkQuery c steps h b) (queryTotal (natAbs (c .q)) (natAbs (c .m)) steps (unitsTaken (h .readings)) b)
+
+-- ---- what the code relies on, once checked
+
+-- a coded block names one of the steps, and its point's coordinates are narrow
+pub record Scored (steps : List ℤ) (b : List ℕ) (e : List ℤ) : Type 0 where
+  pub listed : AllowedSteps steps
+  pub some : 1 ≤ length b
+  pub first : getD b 0 0 < length steps
+  pub narrow : Sized 8 (2 ^ 14 - 1) e

@@ -1,17 +1,12 @@
-// Code records that are scored: the one check of a record, by itself or in a store, and the point of a block.
+// Code records that are scored: the one check of a record, by itself or in a store.
 ghost use mathlib.Core.Path.{_≡_};
 ghost use mathlib.Core.List.{[], _∷_};
 ghost use Prim.Native.Nat.{_+_, _^_, _<_, _≤_};
-ghost use lib.IntN.{natAbs};
-ghost use lib.ListN.{length, drop};
-ghost use Rattle.layers.specs.Digits.{IsCode};
-ghost use Rattle.layers.specs.Sizes.{longPower, Base};
-ghost use Rattle.layers.specs.Table.{TableFor};
-ghost use Rattle.records.specs.Codes.{blocksIn, wholePoint};
+ghost use lib.ListN.{length};
+ghost use Rattle.records.specs.Codes.{blocksIn};
 ghost use Rattle.refusals.specs.Limits.{blocksMost};
 ghost use Rattle.refusals.specs.Verdicts.{firstRefusal};
 ghost use Rattle.scores.specs.Scores.{checkCode};
-use layers::points;
 use records::codes;
 use records::frames;
 use refusals::Refusal;
@@ -59,12 +54,4 @@ pub fn check_codes(
             check_code(code2, steps2, q, m, k, k, 0, 0)
         }
     }
-}
-
-// The doubled point of a coded block.
-pub(crate) fn whole_point(t: &[i8], b: &[u8], q: i64, m: usize) -> [i64; 8]
-    requires { ⌜ TableFor (natAbs q) (now t) × Base q × (natAbs q ^ m ≤ longPower) × (1 ≤ length (now b)) × IsCode 8 (natAbs q) m (drop 1 (now b)) ⌝ }
-    ensures { λ r. ⌜ r ≡ wholePoint (natAbs q) m (now (b .entry)) ⌝ }
-{
-    points::decode(t, &b[1..], q, m)
 }

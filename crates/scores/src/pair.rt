@@ -1,31 +1,30 @@
 // The pair score: two code records, each with its own step list, in units of 1/1024 squared (01, Scores).
 ghost use mathlib.Core.Path.{_≡_};
 ghost use Prim.Native.Nat.{_≤_};
-ghost use lib.IntN.{natAbs};
+ghost use lib.IntN.{natAbs, _*ℤ_};
 ghost use lib.ListN.{length};
 ghost use Rattle.layers.specs.Digits.{cut};
 ghost use Rattle.layers.specs.Table.{TableFor};
-ghost use Rattle.records.specs.Codes.{Coder, IsBlock, AreBlocks, blockSize};
-ghost use Rattle.scores.specs.Scores.{total, blockPair, checkPair, pairScore};
+ghost use Rattle.records.specs.Codes.{Coder, AreBlocks, blockSize, stepOf};
+ghost use Rattle.scores.specs.Scores.{Scored, total, inner, blockPair, checkPair, pairScore};
 use crate::codes;
 use crate::inner;
 use layers::table;
 use records::asked;
+use records::points;
 use refusals::Answer;
 use refusals::Verdict;
 use refusals::settings;
 use refusals::settings::Settings;
 
-// Two coded blocks: s·t times the inner product of their points.
-fn block_pair(t: &[i8], steps: &[i32], b: &[u8], steps2: &[i32], b2: &[u8], q: i64, m: usize) -> i64
-    requires { ⌜ TableFor (natAbs q) (now t) × Coder q m (now steps) × Coder q m (now steps2) × IsBlock (length (now steps)) (natAbs q) m (now b) × IsBlock (length (now steps2)) (natAbs q) m (now b2) ⌝ }
-    ensures { λ r. ⌜ r ≡ blockPair (natAbs q) m (now (steps .entry)) (now (steps2 .entry)) (now (b .entry)) (now (b2 .entry)) ⌝ }
+// Two coded blocks, whose points are e and f: s·t times the inner product of their points.
+fn block_pair(steps: &[i32], b: &[u8], e: &[i16; 8], steps2: &[i32], b2: &[u8], f: &[i16; 8]) -> i64
+    requires { ⌜ Scored (now steps) (now b) (now e) × Scored (now steps2) (now b2) (now f) ⌝ }
+    ensures { λ r. ⌜ r ≡ (stepOf (now (steps .entry)) (now (b .entry)) *ℤ stepOf (now (steps2 .entry)) (now (b2 .entry))) *ℤ inner (now (e .entry)) (now (f .entry)) ⌝ }
 {
     let s = records::codes::step_of(steps, b);
     let s2 = records::codes::step_of(steps2, b2);
-    let e = codes::whole_point(t, b, q, m);
-    let f = codes::whole_point(t, b2, q, m);
-    s * s2 * inner::inner(&e, &f)
+    s * s2 * inner::points_inner(e, f)
 }
 
 // The sum over k coded blocks and as many others.
@@ -42,13 +41,25 @@ pub fn pair_total(
     requires { ⌜ TableFor (natAbs q) (now t) × Coder q m (now steps) × Coder q m (now steps2) × AreBlocks (length (now steps)) (natAbs q) m k (now body) × AreBlocks (length (now steps2)) (natAbs q) m k (now body2) × (k ≤ 64) ⌝ }
     ensures { λ r. ⌜ r ≡ total (blockPair (natAbs q) m (now (steps .entry)) (now (steps2 .entry))) (cut (blockSize m) k (now (body .entry))) (cut (blockSize m) k (now (body2 .entry))) ⌝ }
 {
+    let mut rows: [[i16; 8]; 64] = [[0; 8]; 64];
+    let mut rows2: [[i16; 8]; 64] = [[0; 8]; 64];
+    points::whole_points(t, body, q, m, k, &mut rows);
+    points::whole_points(t, body2, q, m, k, &mut rows2);
     let n = records::codes::block_size(m);
     let mut z: i64 = 0;
     let mut i: usize = 0;
     while i < k {
         let at = n * i;
         let end = at + n;
-        z = z + block_pair(t, steps, &body[at..end], steps2, &body2[at..end], q, m);
+        z = z
+            + block_pair(
+                steps,
+                &body[at..end],
+                &rows[i],
+                steps2,
+                &body2[at..end],
+                &rows2[i],
+            );
         i = i + 1;
     }
     z

@@ -1,38 +1,36 @@
 // The query score: whole readings against one code record, in halves of 1/1024 squared (01, Scores).
 ghost use mathlib.Core.Path.{_≡_};
 ghost use Prim.Native.Nat.{_*_, _/_, _^_, _≤_};
-ghost use lib.IntN.{natAbs};
+ghost use lib.IntN.{natAbs, _*ℤ_};
 ghost use lib.ListN.{length};
-ghost use Rattle.integers.specs.Vectors.{Sized};
+ghost use Rattle.integers.specs.Vectors.{dot, Sized};
 ghost use Rattle.layers.specs.Digits.{cut};
 ghost use Rattle.layers.specs.Table.{TableFor};
-ghost use Rattle.records.specs.Codes.{Coder, IsBlock, AreBlocks, blockSize};
+ghost use Rattle.records.specs.Codes.{Coder, AreBlocks, blockSize, stepOf};
 ghost use Rattle.records.specs.Laws.Asked.{CoderTaken};
 ghost use Rattle.records.specs.Vectors.{unitsHour, fvecsHour, UnitsTaken};
 ghost use Rattle.refusals.specs.Answers.{valued};
-ghost use Rattle.scores.specs.Scores.{total, blockQuery, queryTotal, checkCode, queryScore};
-use crate::codes;
+ghost use Rattle.scores.specs.Scores.{Scored, total, blockQuery, queryTotal, checkCode, queryScore};
 use crate::hours;
 use crate::inner;
-use lattice::lent;
 use layers::table;
 use readings::words;
+use records::codes;
+use records::points;
 use refusals::Answer;
 use refusals::Verdict;
 use refusals::settings;
 use refusals::settings::Settings;
 
-// Eight readings and a coded block: s times the sum of X_i·e_i.
-fn block_query(t: &[i8], steps: &[i32], x: &[i32], b: &[u8], q: i64, m: usize) -> i64
-    requires { ⌜ TableFor (natAbs q) (now t) × Coder q m (now steps) × Sized 8 (2 ^ 24) (now x) × IsBlock (length (now steps)) (natAbs q) m (now b) ⌝ }
-    ensures { λ r. ⌜ r ≡ blockQuery (natAbs q) m (now (steps .entry)) (now (x .entry)) (now (b .entry)) ⌝ }
+// Eight readings and a coded block, whose point is e: s times the sum of X_i·e_i.
+fn block_query(steps: &[i32], x: &[i32], b: &[u8], e: &[i16; 8]) -> i64
+    requires { ⌜ Sized 8 (2 ^ 24) (now x) × Scored (now steps) (now b) (now e) ⌝ }
+    ensures { λ r. ⌜ r ≡ stepOf (now (steps .entry)) (now (b .entry)) *ℤ dot (now (x .entry)) (now (e .entry)) ⌝ }
 {
-    let s = records::codes::step_of(steps, b);
-    let e = codes::whole_point(t, b, q, m);
-    s * inner::dot(&lent::widen(x), &e)
+    codes::step_of(steps, b) * inner::point_dot(x, e)
 }
 
-// The sum over k blocks of readings and as many coded ones.
+// The sum over k blocks of readings and as many coded ones. Their points are made in the lent rows, whatever these hold.
 pub fn query_total(
     t: &[i8],
     steps: &[i32],
@@ -41,11 +39,14 @@ pub fn query_total(
     q: i64,
     m: usize,
     k: usize,
+    rows: &mut [[i16; 8]; 64],
 ) -> i64
-    requires { ⌜ TableFor (natAbs q) (now t) × Coder q m (now steps) × Sized (8 * k) (2 ^ 24) (now x) × AreBlocks (length (now steps)) (natAbs q) m k (now body) × (k ≤ 64) ⌝ }
-    ensures { λ r. ⌜ r ≡ total (blockQuery (natAbs q) m (now (steps .entry))) (cut 8 k (now (x .entry))) (cut (blockSize m) k (now (body .entry))) ⌝ }
+    requires { ⌜ TableFor (natAbs q) (now t) × Coder q m (now steps) × Sized (8 * k) (2 ^ 24) (now x) × AreBlocks (length (now steps)) (natAbs q) m k (now body) × (k ≤ 64) × (length (now rows) ≡ 64) ⌝ }
+    ensures answer { λ r. ⌜ r ≡ total (blockQuery (natAbs q) m (now (steps .entry))) (cut 8 k (now (x .entry))) (cut (blockSize m) k (now (body .entry))) ⌝ }
+    ensures room { λ _. ⌜ length (now (rows .exit)) ≡ 64 ⌝ }
 {
-    let n = records::codes::block_size(m);
+    points::whole_points(t, body, q, m, k, rows);
+    let n = codes::block_size(m);
     let mut z: i64 = 0;
     let mut i: usize = 0;
     while i < k {
@@ -53,21 +54,22 @@ pub fn query_total(
         let to = from + 8;
         let at = n * i;
         let end = at + n;
-        z = z + block_query(t, steps, &x[from..to], &body[at..end], q, m);
+        z = z + block_query(steps, &x[from..to], &body[at..end], &rows[i]);
         i = i + 1;
     }
     z
 }
 
-// The same, having the table itself, once for all blocks.
+// The same, having the table itself and the rows, once for all blocks.
 fn query_body(steps: &[i32], x: &[i32], body: &[u8], q: i64, m: usize, k: usize) -> i64
     requires { ⌜ Coder q m (now steps) × Sized (8 * k) (2 ^ 24) (now x) × AreBlocks (length (now steps)) (natAbs q) m k (now body) × (k ≤ 64) ⌝ }
     ensures { λ r. ⌜ r ≡ total (blockQuery (natAbs q) m (now (steps .entry))) (cut 8 k (now (x .entry))) (cut (blockSize m) k (now (body .entry))) ⌝ }
 {
+    let mut rows: [[i16; 8]; 64] = [[0; 8]; 64];
     if q == 2 {
-        query_total(&table::layer_points(), steps, x, body, q, m, k)
+        query_total(&table::layer_points(), steps, x, body, q, m, k, &mut rows)
     } else {
-        query_total(&[0; 1], steps, x, body, q, m, k)
+        query_total(&[0; 1], steps, x, body, q, m, k, &mut rows)
     }
 }
 
@@ -78,7 +80,7 @@ fn score_units(s: Settings, steps: &[i32], x: &[i32], code: &[u8]) -> Answer
 {
     let k = x.len() / 8;
     let m = settings::layers(s);
-    match codes::check_code(code, steps.len(), settings::digit_values(s), m, k, k, 0, 0) {
+    match crate::codes::check_code(code, steps.len(), settings::digit_values(s), m, k, k, 0, 0) {
         Verdict::Refused(r) => refusals::refused(r),
         Verdict::Accepted => Answer {
             verdict: Verdict::Accepted,

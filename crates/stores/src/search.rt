@@ -23,7 +23,7 @@ use scores::hours;
 use scores::query;
 use tables::query_score;
 
-// The score of readings X with one record: looked up where entries are lent, and else summed from its points.
+// The score of readings X with one record: looked up where entries are lent, and else summed from its points, made in the lent rows.
 fn record_total(
     t: &[i8],
     entries: &[i32],
@@ -33,12 +33,14 @@ fn record_total(
     q: i64,
     m: usize,
     k: usize,
+    rows: &mut [[i16; 8]; 64],
 ) -> i64
-    requires { ⌜ TableFor (natAbs q) (now t) × LookUp (natAbs q) (now x) (now entries) × Coder q m (now steps) × Sized (8 * k) (2 ^ 24) (now x) × RecordTaken (length (now steps)) (natAbs q) m k k (now code) × (k ≤ 64) ⌝ }
-    ensures { λ r. ⌜ r ≡ queryTotal (natAbs q) m (now (steps .entry)) (now (x .entry)) (now (code .entry)) ⌝ }
+    requires { ⌜ TableFor (natAbs q) (now t) × LookUp (natAbs q) (now x) (now entries) × Coder q m (now steps) × Sized (8 * k) (2 ^ 24) (now x) × RecordTaken (length (now steps)) (natAbs q) m k k (now code) × (k ≤ 64) × (length (now rows) ≡ 64) ⌝ }
+    ensures answer { λ r. ⌜ r ≡ queryTotal (natAbs q) m (now (steps .entry)) (now (x .entry)) (now (code .entry)) ⌝ }
+    ensures room { λ _. ⌜ length (now (rows .exit)) ≡ 64 ⌝ }
 {
     if entries.len() == 0 {
-        query::query_total(t, steps, x, &code[4..], q, m, k)
+        query::query_total(t, steps, x, &code[4..], q, m, k, rows)
     } else {
         query_score::query_total_by(entries, steps, &code[4..], q, m, k)
     }
@@ -60,15 +62,16 @@ fn best_of(
 {
     let n = checks::code_length(m, k);
     let count = store.len() / n;
+    let mut rows: [[i16; 8]; 64] = [[0; 8]; 64];
     let mut best = Best {
         hour: 0,
-        score: record_total(t, entries, steps, x, &store[0..n], q, m, k),
+        score: record_total(t, entries, steps, x, &store[0..n], q, m, k, &mut rows),
     };
     let mut i: usize = 1;
     while i < count {
         let at = n * i;
         let end = at + n;
-        let z = record_total(t, entries, steps, x, &store[at..end], q, m, k);
+        let z = record_total(t, entries, steps, x, &store[at..end], q, m, k, &mut rows);
         best = crate::better(best, i, z);
         i = i + 1;
     }

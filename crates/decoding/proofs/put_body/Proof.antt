@@ -29,7 +29,7 @@ slice-aggregate-put-blocks-2 c = search needs
 
 put-blocks-requires-2 : tie.Need-put-blocks-requires-2
 put-blocks-requires-2 c κs = let e = c .before .before in let s = e .before .before .before in
-    simp (toZ-ofZ, s .fits .q) ((λ h. absurd (e .if1 .left (ap (ofZ w64) (sym (base-is (s .args .q) (s .pre .0 .base)) ∙ ap pos h)))), s .pre .0, s .pre .1, s .pre .2)
+    simp (toZ-ofZ, s .fits .q) ((λ h. absurd (e .if1 .left (ap (ofZ w64) (sym (base-is (s .args .q) (s .pre .0 .base)) ∙ ap pos h)))), s .pre .0, s .pre .1, s .pre .2, s .pre .3)
 
 same-length : tie.Need-same-length
 same-length c = search needs

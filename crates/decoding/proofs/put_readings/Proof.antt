@@ -7,7 +7,7 @@ use native.Mathlib.Omega.{arith}
 use lib.IntN.{ℤ, pos}
 use lib.ListN.{length, take, drop, drop-of-length-le}
 use lib.Seq.{take-all}
-use mir.Syntax.{w64}
+use mir.Syntax.{w16, w64}
 use mir.Val.{SFits, toZ}
 use mir.Facts.{toZ-ofZ}
 use Rattle.integers.specs.Vectors.{«at»}
@@ -57,8 +57,11 @@ module _ (c : tie.After-put-decoded-arg2 Inv-loop μ-loop) where
   abbrev x : ℤ
   x = «at» (e l) (i l)
 
+  narrow-fits : SFits w16 x
+  narrow-fits = record { sfits = c .put-decoded-arg2 .given }
+
   fits : SFits w64 x
-  fits = record { sfits = c .put-decoded-arg2 .given }
+  fits = record { sfits = omega (arith, narrow-fits .sfits) }
 
 -- its bytes are written
 module _ (c : tie.After-put-decoded Inv-loop μ-loop) where
@@ -68,7 +71,7 @@ module _ (c : tie.After-put-decoded Inv-loop μ-loop) where
   more-is : c .put-decoded .last .0 ≡ joined (map (readingBytes (s b)) (take (i b + 1) (e b))) ++ drop (4 * (i b + 1)) (found b)
   more-is =
       let bytes : List ℕ = readingBytes (s b) (x (c .before)) in let four : 4 * i b + 4 ≡ 4 * (i b + 1) = omega arith in
-      (simp (toZ-ofZ, start b .fits .s, fits (c .before)) at (c .put-decoded .ensures))
+      (simp (toZ-ofZ, start b .fits .s, narrow-fits (c .before), fits (c .before)) at (c .put-decoded .ensures))
       ∙ ap (λ (o : List ℕ). take (4 * i b) o ++ bytes ++ drop (4 * i b + 4) o) (out-is b)
       ∙ write-over (written b) (found b) (4 * i b) bytes 4 (written-long b)
       ∙ ap₂ (λ (w : List ℕ) (k : ℕ). w ++ drop k (found b)) (sym (joined-take (readingBytes (s b)) (e b) (i b) (pos 0) (omega (arith, start b .pre .0 .long)))) four
@@ -85,8 +88,11 @@ mul-put-decoded-2 c = search needs
 element-copy-out-put-decoded : tie.Need-element-copy-out-put-decoded Inv-loop μ-loop
 element-copy-out-put-decoded c = search needs
 
+cast-put-decoded : tie.Need-cast-put-decoded Inv-loop μ-loop
+cast-put-decoded c = simp (toZ-ofZ, narrow-fits c) (fits c)
+
 put-decoded-requires : tie.Need-put-decoded-requires Inv-loop μ-loop
-put-decoded-requires c κs = let b = l c in simp (toZ-ofZ, start b .fits .s, fits c) (omega arith, start b .pre .0 .exact (i b))
+put-decoded-requires c κs = let b = l c in simp (toZ-ofZ, start b .fits .s, narrow-fits c, fits c) (omega arith, start b .pre .0 .exact (i b))
 
 add-i : tie.Need-add-i Inv-loop μ-loop
 add-i c = search needs
@@ -116,6 +122,7 @@ put-readings-spec =
     mul-put-decoded
     mul-put-decoded-2
     element-copy-out-put-decoded
+    cast-put-decoded
     put-decoded-requires
     add-i
     loop-less

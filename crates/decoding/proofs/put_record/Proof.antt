@@ -124,6 +124,7 @@ put-body-requires c κs = let w = c .before .before .before .before in let k = b
     simp (toZ-ofZ, s k .fits .q, length-take, length-drop) (
       s k .pre .0,
       subst (AreBlocks (length (steps k)) (q k) (m k) (k .blocks-in .result)) (sym (rest-whole 4 (code k))) (subst (λ (j : ℕ). AreBlocks (length (steps k)) (q k) (m k) j (drop 4 (code k))) (sym (k-is k)) (s k .pre .3)),
+      few k,
       omega (arith, first-long w, room k),
     )
 

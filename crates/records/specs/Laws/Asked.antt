@@ -40,7 +40,7 @@ pub coder-taken : (c : Settings) (place : ℕ) (steps : List ℤ) → checkSetti
 coder-taken c place steps e f = let a = checked-allowed c e in
     record {
       allowed = a;
-      coder = record { base = allowed-base (c .q) (c .m) a; few = a .m-most; power = a .power; listed = steps-allowed steps (unless-accepted _ (Steps place) f) };
+      coder = record { base = allowed-base (c .q) (c .m) a; digit = a .q-most; few = a .m-most; power = a .power; listed = steps-allowed steps (unless-accepted _ (Steps place) f) };
     }
 
 -- both checked as one

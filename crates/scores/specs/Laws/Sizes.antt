@@ -1,11 +1,12 @@
 -- How large scores are, for all q, M and K: each coordinate of a whole point is at most 2 W, and nothing else is used.
 use mathlib.Core.List.{List}
-use Prim.Native.Nat.{ℕ, _*_, _^_, _≤_}
+use Prim.Native.Nat.{ℕ, _*_, _-_, _^_, _≤_}
 use native.Mathlib.Nat.{mul-le-mul}
 use native.Mathlib.Omega.{arith}
-use lib.IntN.{ℤ, natAbs, _*ℤ_}
+use lib.IntN.{ℤ, pos, negsuc, natAbs, _*ℤ_}
 use lib.ListN.{length, getD, drop}
 use lib.Seq.{take-all}
+use Rattle.integers.specs.Floor.{floorDiv}
 use Rattle.integers.specs.Laws.Sizes.{abs-mul-le}
 use Rattle.integers.specs.Laws.Sums.{dot-bound, sized-more}
 use Rattle.integers.specs.Vectors.{dot, Sized}
@@ -16,13 +17,28 @@ use Rattle.layers.specs.Laws.Widths.{width-less}
 use Rattle.layers.specs.Sizes.{width}
 use Rattle.records.specs.Codes.{Coder, IsBlock, stepOf, wholePoint}
 use Rattle.records.specs.Laws.Asked.{coder-positive}
+use Rattle.records.specs.Laws.Points.{coder-digital, point-narrow}
 use Rattle.refusals.specs.Limits.{stepMost}
 use Rattle.scores.specs.Laws.Inner.{inner-size}
-use Rattle.scores.specs.Scores.{inner, blockPair, blockQuery}
+use Rattle.scores.specs.Scores.{Scored, inner, blockPair, blockQuery}
 
 -- an inner product of n entries up to A with n up to B is at most n A B
 pub dot-sized : (n A B : ℕ) (a b : List ℤ) → Sized n A a → Sized n B b → natAbs (dot a b) ≤ n * (A * B)
 dot-sized n A B a b h k = rw (take-all n a (omega (arith, h .long)), take-all n b (omega (arith, k .long))) at (dot-bound A B a b (h .small) (k .small) n)
+
+-- a quarter is no larger
+quarter-small : (B : ℕ) (x : ℤ) → natAbs x ≤ 4 * B → natAbs (floorDiv x 4) ≤ B
+quarter-small B (pos n) h = omega arith
+quarter-small B (negsuc n) h = omega arith
+
+-- the inner product of two points in narrow numbers
+pub inner-narrow : (e f : List ℤ) → Sized 8 (2 ^ 14 - 1) e → Sized 8 (2 ^ 14 - 1) f → natAbs (inner e f) ≤ 2 ^ 29
+unfolding inner
+inner-narrow e f h k = quarter-small (2 ^ 29) (dot e f) (omega (arith, dot-sized 8 (2 ^ 14 - 1) (2 ^ 14 - 1) e f h k))
+
+-- a step that a block names
+pub scored-step : (steps : List ℤ) (b : List ℕ) (e : List ℤ) → Scored steps b e → natAbs (stepOf steps b) ≤ stepMost
+scored-step steps b e h = h .listed .each (getD b 0 0) (h .first) .most
 
 module _ (q : ℤ) (m : ℕ) where
   -- no coordinate of a whole point is larger, not doubled
@@ -56,6 +72,10 @@ module _ (q : ℤ) (m : ℕ) where
       -- so one that the code takes
       pub point-small : Sized 8 (2 ^ 24) e
       point-small = sized-more 8 (2 * W) e point-sized (2 ^ 24) (omega (arith, width-most))
+
+      -- and is scored in narrow numbers
+      pub block-scored : Scored steps b e
+      block-scored = record { listed = c .listed; some = omega (arith, h .long); first = h .first; narrow = point-narrow q m (coder-digital q m steps c) b (h .code) }
 
       -- and a step up to 1024
       pub step-small : natAbs (stepOf steps b) ≤ stepMost

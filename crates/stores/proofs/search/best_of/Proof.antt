@@ -1,5 +1,5 @@
 -- `best_of` walks the records: after i of them `best` is the best of their scores.
-use mathlib.Core.Path.{_≡_, sym, _∙_, ap, ap₂, subst}
+use mathlib.Core.Path.{_≡_, refl, sym, _∙_, ap, ap₂, subst}
 use mathlib.Core.List.{List, map}
 use Prim.Native.Nat.{ℕ, _+_, _*_, _-_, _/_, _<_, _≤_}
 use native.Mathlib.Nat.{div-le-self}
@@ -22,10 +22,10 @@ use Rattle.stores.proofs.search.best_of.Statement.{statement}
 use Rattle.stores.proofs.search.best_of.Tie as tie
 
 abbrev Inv-loop : tie.InvT-loop
-Inv-loop t entries steps x store q m k n count best₀ i₀ best i = (1 ≤ i) × (i ≤ count) × (best ≡ bestOf (map (queryTotal (natAbs (toZ w64 q)) m steps x) (cut n i store)))
+Inv-loop t entries steps x store q m k n count rows₀ best₀ i₀ rows best i = (1 ≤ i) × (i ≤ count) × (best ≡ bestOf (map (queryTotal (natAbs (toZ w64 q)) m steps x) (cut n i store))) × (length rows ≡ 64)
 
 abbrev μ-loop : tie.MeasureT-loop
-μ-loop t entries steps x store q m k n count best₀ i₀ best i = count - i
+μ-loop t entries steps x store q m k n count rows₀ best₀ i₀ rows best i = count - i
 
 module _ (c : tie.After-code-length Inv-loop μ-loop) where
   abbrev s : tie.Start Inv-loop μ-loop
@@ -81,7 +81,7 @@ module _ (c : tie.After-code-length Inv-loop μ-loop) where
 -- record i
 module _ (l : tie.In-loop Inv-loop μ-loop) where
   abbrev a : tie.After-code-length Inv-loop μ-loop
-  a = l .before .before .before .before
+  a = l .before .before .before .before .before
 
   abbrev i : ℕ
   i = l .before .loop .i
@@ -108,14 +108,15 @@ part-record-total-end : tie.Need-part-record-total-end Inv-loop μ-loop
 part-record-total-end c = first-ends c
 
 record-total-requires : tie.Need-record-total-requires Inv-loop μ-loop
-record-total-requires c κs = let a = c .before in let v = s a .args in
-    simp (toZ-ofZ, s a .fits .q) (s a .pre .0, s a .pre .1, s a .pre .2, s a .pre .3, subst (RecordTaken (length (steps a)) (q a) (v .m) (v .k) (v .k)) (sym (first-is a)) (each a 0 (some a)), s a .pre .5)
+record-total-requires c κs = let a = c .before .before in let v = s a .args in
+    simp (toZ-ofZ, s a .fits .q) (s a .pre .0, s a .pre .1, s a .pre .2, s a .pre .3, subst (RecordTaken (length (steps a)) (q a) (v .m) (v .k) (v .k)) (sym (first-is a)) (each a 0 (some a)), s a .pre .5, refl)
 
 loop-holds : tie.Need-loop-holds Inv-loop μ-loop
-loop-holds c = let a = c .before .before in let v = s a .args in let f : SFits w64 (c .record-total .result) = record { sfits = c .record-total .ok } in let whole : n a - 0 ≡ n a = omega arith in (
+loop-holds c = let a = c .before .before .before in let v = s a .args in let f : SFits w64 (c .record-total .result) = record { sfits = c .record-total .ok } in let whole : n a - 0 ≡ n a = omega arith in (
   omega arith,
   some a,
-  ap (λ (z : ℤ). record { hour = 0; score = z }) (toZ-ofZ f ∙ c .record-total .ensures ∙ ap (λ (j : ℕ). queryTotal (natAbs (toZ w64 (ofZ w64 (v .q)))) (v .m) (steps a) (v .x .now) (take j (store a))) whole),
+  ap (λ (z : ℤ). record { hour = 0; score = z }) (toZ-ofZ f ∙ c .record-total .ensures .0 ∙ ap (λ (j : ℕ). queryTotal (natAbs (toZ w64 (ofZ w64 (v .q)))) (v .m) (steps a) (v .x .now) (take j (store a))) whole),
+  c .record-total .ensures .1,
 )
 
 mul-at : tie.Need-mul-at Inv-loop μ-loop
@@ -134,31 +135,32 @@ part-record-total-end-2 : tie.Need-part-record-total-end-2 Inv-loop μ-loop
 part-record-total-end-2 c = ends (a c) (i c) (within c)
 
 record-total-requires-2 : tie.Need-record-total-requires-2 Inv-loop μ-loop
-record-total-requires-2 c κs = let l = c .before in let b = a l in let v = s b .args in
-    simp (toZ-ofZ, s b .fits .q) (s b .pre .0, s b .pre .1, s b .pre .2, s b .pre .3, subst (RecordTaken (length (steps b)) (q b) (v .m) (v .k) (v .k)) (sym (record-is l)) (each b (i l) (within l)), s b .pre .5)
+record-total-requires-2 c κs = let l = c .before .before in let b = a l in let v = s b .args in
+    simp (toZ-ofZ, s b .fits .q) (s b .pre .0, s b .pre .1, s b .pre .2, s b .pre .3, subst (RecordTaken (length (steps b)) (q b) (v .m) (v .k) (v .k)) (sym (record-is l)) (each b (i l) (within l)), s b .pre .5, l .before .loop .inv .3)
 
 better-requires : tie.Need-better-requires Inv-loop μ-loop
 better-requires c κs = tt
 
 add-i : tie.Need-add-i Inv-loop μ-loop
-add-i c = let l = c .before .before .before in omega (arith, within l, few (a l), s (a l) .good)
+add-i c = let l = c .before .before .before .before in omega (arith, within l, few (a l), s (a l) .good)
 
 loop-less : tie.Need-loop-less Inv-loop μ-loop
 loop-less c = omega arith
 
 loop-again : tie.Need-loop-again Inv-loop μ-loop
-loop-again c = let r = c .before in let l = r .before .before in let b = a l in let v = s b .args in
+loop-again c = let r = c .before in let l = r .before .before .before in let b = a l in let v = s b .args in
     let y : ℤ = r .record-total2 .result in let y-fits : SFits w64 y = record { sfits = r .record-total2 .ok } in
-    let y-is : y ≡ f b (recordAt (n b) (store b) (i l)) = (simp (toZ-ofZ, s b .fits .q) at (r .record-total2 .ensures)) ∙ ap (f b) (record-is l) in
+    let y-is : y ≡ f b (recordAt (n b) (store b) (i l)) = (simp (toZ-ofZ, s b .fits .q) at (r .record-total2 .ensures .0)) ∙ ap (f b) (record-is l) in
     let best-is : l .before .loop .best ≡ bestOf (map (f b) (cut (n b) (i l) (store b))) = simp (toZ-ofZ, s b .fits .q) at (l .before .loop .inv .2) in (
       omega arith,
       omega (arith, within l),
       simp (toZ-ofZ, s b .fits .q) (c .better .ensures ∙ ap₂ (λ (w : Best) (z : ℤ). better w (i l) z) best-is (toZ-ofZ y-fits ∙ y-is) ∙ sym (best-next (f b) (n b) (store b) (i l) (l .before .loop .inv .0))),
+      r .record-total2 .ensures .1,
     )
 
 returns : tie.Need-returns Inv-loop μ-loop
 unfolding bestIn
-returns c = let l = c .before in let b = l .before .before .before in let v = s b .args in let all : l .loop .i ≡ count b = omega (arith, c .loop-test .left, l .loop .inv .1) in
+returns c = let l = c .before in let b = l .before .before .before .before in let v = s b .args in let all : l .loop .i ≡ count b = omega (arith, c .loop-test .left, l .loop .inv .1) in
     (simp (toZ-ofZ, s b .fits .q) at (l .loop .inv .2))
     ∙ ap (λ (j : ℕ). bestOf (map (f b) (cut (n b) j (store b)))) all
     ∙ ap (λ (n : ℕ). bestOf (map (f b) (cut n (length (store b) / n) (store b)))) (n-is b)

@@ -81,7 +81,7 @@ part-query-total-end : tie.Need-part-query-total-end
 part-query-total-end c = omega arith
 
 query-total-requires : tie.Need-query-total-requires
-query-total-requires c κs = let s = c .before .before .before in simp (toZ-ofZ, s .fits .q) (s .pre .0, s .pre .2, s .pre .3, are-blocks s, s .pre .5)
+query-total-requires c κs = let s = c .before .before .before .before in simp (toZ-ofZ, s .fits .q) (s .pre .0, s .pre .2, s .pre .3, are-blocks s, s .pre .5, s .pre .6)
 
 sub-query-total-by : tie.Need-sub-query-total-by
 sub-query-total-by c = omega (arith, there (s c))
@@ -97,18 +97,22 @@ query-total-by-requires c κs = let e = c .before in let a = s e in simp (toZ-of
 
 returns : tie.Need-returns
 unfolding queryTotal
-returns c = let s = c .before .before .before .before in let f : SFits w64 (c .query-total .result) = record { sfits = c .query-total .ok } in
-    toZ-ofZ f ∙ (simp (toZ-ofZ, s .fits .q) at (c .query-total .ensures))
-    ∙ ap₂ (λ (n : ℕ) (f : List ℕ). total (blockQuery (q s) (m s) (steps s)) (cut 8 (k s) (X s)) (cut (blockSize (m s)) n f)) (sym (count s)) (rest-whole 4 (code s))
-    ∙ ap (λ (n : ℕ). total (blockQuery (q s) (m s) (steps s)) (cut 8 n (X s)) (cut (blockSize (m s)) (blocksIn (m s) (code s)) (drop 4 (code s)))) (sym (count-x s))
+returns c = let s = c .before .before .before .before .before in let f : SFits w64 (c .query-total .result) = record { sfits = c .query-total .ok } in (
+  toZ-ofZ f ∙ (simp (toZ-ofZ, s .fits .q) at (c .query-total .ensures .0))
+      ∙ ap₂ (λ (n : ℕ) (f : List ℕ). total (blockQuery (q s) (m s) (steps s)) (cut 8 (k s) (X s)) (cut (blockSize (m s)) n f)) (sym (count s)) (rest-whole 4 (code s))
+      ∙ ap (λ (n : ℕ). total (blockQuery (q s) (m s) (steps s)) (cut 8 n (X s)) (cut (blockSize (m s)) (blocksIn (m s) (code s)) (drop 4 (code s)))) (sym (count-x s)),
+  c .query-total .ensures .1,
+)
 
 returns-2 : tie.Need-returns-2
 unfolding queryTotalBy
-returns-2 c = let e = c .before .before in let a = s e in let f : SFits w64 (c .query-total-by .result) = record { sfits = c .query-total-by .ok } in
-    toZ-ofZ f ∙ (simp (toZ-ofZ, a .fits .q) at (c .query-total-by .ensures))
-    ∙ ap₂ (λ (n : ℕ) (f : List ℕ). total (blockQueryBy (q a) (m a) (steps a)) (cut (partSize (q a)) n (entries a)) (cut (blockSize (m a)) n f)) (sym (count a)) (rest-whole 4 (code a))
-    ∙ ap (λ (t : List ℤ). queryTotalBy (q a) (m a) (steps a) t (code a)) (look e .1 .1)
-    ∙ query-totals (q a) (m a) (steps a) (X a) (look e .1 .0) (code a) (count a ∙ sym (count-x a)) (λ i l. taken-block (length (steps a)) (q a) (m a) (k a) (k a) (code a) (a .pre .4) i l .code)
+returns-2 c = let e = c .before .before in let a = s e in let f : SFits w64 (c .query-total-by .result) = record { sfits = c .query-total-by .ok } in (
+  toZ-ofZ f ∙ (simp (toZ-ofZ, a .fits .q) at (c .query-total-by .ensures))
+      ∙ ap₂ (λ (n : ℕ) (f : List ℕ). total (blockQueryBy (q a) (m a) (steps a)) (cut (partSize (q a)) n (entries a)) (cut (blockSize (m a)) n f)) (sym (count a)) (rest-whole 4 (code a))
+      ∙ ap (λ (t : List ℤ). queryTotalBy (q a) (m a) (steps a) t (code a)) (look e .1 .1)
+      ∙ query-totals (q a) (m a) (steps a) (X a) (look e .1 .0) (code a) (count a ∙ sym (count-x a)) (λ i l. taken-block (length (steps a)) (q a) (m a) (k a) (k a) (code a) (a .pre .4) i l .code),
+  a .pre .6,
+)
 
 pub record-total-spec : {M : Type 1} → statement M
 record-total-spec =
