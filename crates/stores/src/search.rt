@@ -21,7 +21,7 @@ use refusals::settings;
 use refusals::settings::Settings;
 use scores::hours;
 use scores::query;
-use tables::query_score;
+use lookups::query_score;
 
 // The score of readings X with one record: looked up where entries are lent, and else summed from its points, made in the lent rows.
 fn record_total(

@@ -4,9 +4,5 @@ pub mod Entries
 pub mod Columns
 pub mod Groups
 pub mod Sizes
-pub mod Sums
-pub mod Rows
 pub mod Filling
-pub mod Scoring
-pub mod Same
 pub mod Theorems

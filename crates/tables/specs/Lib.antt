@@ -2,5 +2,4 @@
 pub mod Tables
 pub mod Groups
 pub mod Filling
-pub mod Scoring
 pub mod Laws

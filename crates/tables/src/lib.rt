@@ -1,8 +1,6 @@
-// Tables of scores: filling them, and scoring by them (01, Scores).
+// Tables of scores, filled (01, Scores).
 mod counting;
-pub mod pair_score;
 pub mod pair_table;
-mod parts;
-pub mod query_score;
+pub mod parts;
 pub mod query_table;
 mod slots;

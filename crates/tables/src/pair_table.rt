@@ -58,7 +58,7 @@ fn fill_rows(t: &[i8], entries: &mut [i8])
 }
 
 // Of a lent pair table and the settings: refusal 8 where q is not 2, 3 where the table is shorter than 65,536.
-pub(crate) fn check_lent(s: Settings, room: usize) -> Verdict
+pub fn check_lent(s: Settings, room: usize) -> Verdict
     requires { ⌜ Allowed (s .q) (s .m) ⌝ }
     ensures { λ r. ⌜ r ≡ firstRefusal (checkTable pairMost s ∷ checkEntries pairSize room ∷ []) ⌝ }
 {

@@ -6,7 +6,7 @@ ghost use Rattle.layers.specs.Sizes.{Base};
 ghost use Rattle.tables.specs.Tables.{queryMost, partSize};
 
 // The entries of one part: q^8, squared from q three times.
-pub(crate) fn part_size(q: i64) -> usize
+pub fn part_size(q: i64) -> usize
     requires { ⌜ Base q × (natAbs q ≤ queryMost) ⌝ }
     ensures { λ r. ⌜ r ≡ partSize (natAbs q) ⌝ }
 {

@@ -105,7 +105,7 @@ fn check_q(s: Settings) -> Verdict
 }
 
 // Refusal 3 where the lent table has fewer than K·q^8 entries.
-pub(crate) fn check_entries(s: Settings, k: usize, room: usize) -> Verdict
+pub fn check_entries(s: Settings, k: usize, room: usize) -> Verdict
     requires { ⌜ Allowed (s .q) (s .m) × (natAbs (s .q) ≤ queryMost) × (k ≤ 64) ⌝ }
     ensures { λ r. ⌜ r ≡ checkEntries (partSize (natAbs (s .q)) * k) room ⌝ }
 {

@@ -8,7 +8,7 @@ ghost use Rattle.scores.specs.Scores.{pairScore, queryScore};
 ghost use Rattle.stores.specs.Stores.{bestHour};
 ghost use Rattle.stores.specs.Tabled.{bestHourBy, bestHourTable};
 ghost use Rattle.tables.specs.Filling.{pairFilled, pairTableRoom, queryFilled, queryTableRoom};
-ghost use Rattle.tables.specs.Scoring.{pairScoreBy, queryScoreBy};
+ghost use Rattle.lookups.specs.Scoring.{pairScoreBy, queryScoreBy};
 ghost use Rattle.unit.specs.Answers.{settings, answerOut, hourOut};
 use crate::answers;
 use crate::answers::EkAnswer;
@@ -114,7 +114,7 @@ pub extern "C" fn ek_pair_score_by_table(
 ) -> EkAnswer
     ensures { λ r. ⌜ r ≡ answerOut (pairScoreBy (settings s) (now (steps0 .entry)) (now (record0 .entry)) (now (steps1 .entry)) (now (record1 .entry)) (now (table .entry))) ⌝ }
 {
-    answers::answer_out(tables::pair_score::pair_score_by_table(
+    answers::answer_out(lookups::pair_score::pair_score_by_table(
         answers::settings_in(s),
         steps0,
         record0,
@@ -134,7 +134,7 @@ pub extern "C" fn ek_query_score_by_table(
 ) -> EkAnswer
     ensures { λ r. ⌜ r ≡ answerOut (queryScoreBy (settings s) (now (steps .entry)) (now (code .entry)) (now (table .entry))) ⌝ }
 {
-    answers::answer_out(tables::query_score::query_score_by_table(
+    answers::answer_out(lookups::query_score::query_score_by_table(
         answers::settings_in(s),
         steps,
         code,

@@ -26,9 +26,9 @@ use Rattle.scores.specs.Laws.Asked.{HourTaken, hour-taken, taken-block, exact-b
 use Rattle.scores.specs.Scores.{queryTotal}
 use Rattle.tables.specs.Filling.{lentAsked}
 use Rattle.tables.specs.Laws.Entries.{queryTable-long}
-use Rattle.tables.specs.Laws.Same.{query-totals}
-use Rattle.tables.specs.Laws.Scoring.{first-without}
-use Rattle.tables.specs.Scoring.{queryTotalBy}
+use Rattle.lookups.specs.Laws.Same.{query-totals}
+use Rattle.lookups.specs.Laws.Scoring.{first-without}
+use Rattle.lookups.specs.Scoring.{queryTotalBy}
 use Rattle.tables.specs.Tables.{queryMost, partSize, queryTable}
 use Rattle.stores.specs.Laws.Asked.{store-taken}
 use Rattle.stores.specs.Laws.Tabled.{asked-taken, hour-accepted, beforeStore, search-by-is}

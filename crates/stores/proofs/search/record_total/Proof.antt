@@ -15,8 +15,8 @@ use Rattle.records.specs.Laws.Parts.{rest-whole}
 use Rattle.scores.specs.Laws.Asked.{taken-block, exact-blocks}
 use Rattle.scores.specs.Scores.{total, blockQuery, queryTotal}
 use Rattle.tables.specs.Laws.Entries.{queryTable-long}
-use Rattle.tables.specs.Laws.Same.{query-totals}
-use Rattle.tables.specs.Scoring.{blockQueryBy, queryTotalBy}
+use Rattle.lookups.specs.Laws.Same.{query-totals}
+use Rattle.lookups.specs.Scoring.{blockQueryBy, queryTotalBy}
 use Rattle.tables.specs.Tables.{queryMost, partSize, queryTable}
 use Rattle.stores.proofs.search.record_total.Statement.{statement}
 use Rattle.stores.proofs.search.record_total.Tie as tie

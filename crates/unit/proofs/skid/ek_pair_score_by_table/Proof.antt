@@ -1,7 +1,7 @@
 -- `ek_pair_score_by_table` hands out what the floor below answers.
 use mathlib.Core.Path.{_∙_, ap}
 use borrow.Author.Needs.{needs}
-use Rattle.tables.specs.Scoring.{pairScoreBy}
+use Rattle.lookups.specs.Scoring.{pairScoreBy}
 use Rattle.refusals.specs.declared.settings.Settings.{Settings}
 use Rattle.unit.specs.Answers.{answerOut}
 use Rattle.unit.proofs.skid.ek_pair_score_by_table.Statement.{statement}

@@ -1,0 +1,3 @@
+-- Scores by a lent table. Definitions stand here; `Laws` holds what is proved of them.
+pub mod Scoring
+pub mod Laws

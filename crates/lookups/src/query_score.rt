@@ -1,0 +1,113 @@
+// The query score of a code record by the query table: sums of what the lent table holds (01, Scores).
+ghost use mathlib.Core.Path.{_≡_};
+ghost use Prim.Native.Nat.{_*_, _^_, _≤_};
+ghost use lib.IntN.{natAbs};
+ghost use lib.ListN.{length};
+ghost use Rattle.layers.specs.Digits.{cut};
+ghost use Rattle.records.specs.Codes.{Coder, IsBlock, AreBlocks, blockSize};
+ghost use Rattle.scores.specs.Scores.{total};
+ghost use Rattle.refusals.specs.Laws.Allowed.{Allowed};
+ghost use Rattle.lookups.specs.Scoring.{blockQueryBy, recordBy, checkQueryBy, queryScoreBy};
+ghost use Rattle.tables.specs.Tables.{queryMost, partSize};
+use tables::parts;
+use tables::query_table;
+use layers::lookup;
+use records::asked;
+use records::codes;
+use records::frames;
+use refusals::Answer;
+use refusals::Refusal;
+use refusals::Verdict;
+use refusals::settings;
+use refusals::settings::Settings;
+
+// A coded block by its part of the table, from the top layer down: its entry, and q times what the layers above it gave; all of it s times.
+fn block_query_by(part: &[i32], steps: &[i32], b: &[u8], q: i64, m: usize) -> i64
+    requires { ⌜ Coder q m (now steps) × IsBlock (length (now steps)) (natAbs q) m (now b) × (natAbs q ≤ queryMost) × (length (now part) ≡ partSize (natAbs q)) ⌝ }
+    ensures value { λ r. ⌜ r ≡ blockQueryBy (natAbs q) m (now (steps .entry)) (now (part .entry)) (now (b .entry)) ⌝ }
+    ensures small { λ r. ⌜ natAbs r ≤ 2 ^ 53 ⌝ }
+{
+    let values = q as usize;
+    let mut z: i64 = 0;
+    let mut i = m;
+    while i > 0 {
+        i = i - 1;
+        let at = 8 * i + 1;
+        let end = at + 8;
+        let n = lookup::entry_number(&b[at..end], values);
+        z = part[n] as i64 + q * z;
+    }
+    codes::step_of(steps, b) * z
+}
+
+// The sum over k coded blocks, each by its own part of the table.
+pub fn query_total_by(table: &[i32], steps: &[i32], body: &[u8], q: i64, m: usize, k: usize) -> i64
+    requires { ⌜ Coder q m (now steps) × AreBlocks (length (now steps)) (natAbs q) m k (now body) × (natAbs q ≤ queryMost) × (partSize (natAbs q) * k ≤ length (now table)) × (k ≤ 64) ⌝ }
+    ensures { λ r. ⌜ r ≡ total (blockQueryBy (natAbs q) m (now (steps .entry))) (cut (partSize (natAbs q)) k (now (table .entry))) (cut (blockSize m) k (now (body .entry))) ⌝ }
+{
+    let size = parts::part_size(q);
+    let n = codes::block_size(m);
+    let mut z: i64 = 0;
+    let mut i: usize = 0;
+    while i < k {
+        let from = size * i;
+        let to = from + size;
+        let at = n * i;
+        let end = at + n;
+        z = z + block_query_by(&table[from..to], steps, &body[at..end], q, m);
+        i = i + 1;
+    }
+    z
+}
+
+// Of a record and the lent table: refusal 10, 3 where the table is shorter than K·q^8 with the record's K, then 7.
+fn check_record(s: Settings, steps: usize, code: &[u8], room: usize) -> Verdict
+    requires { ⌜ Allowed (s .q) (s .m) × (natAbs (s .q) ≤ queryMost) ⌝ }
+    ensures { λ r. ⌜ r ≡ recordBy steps (natAbs (s .q)) (natAbs (s .m)) (now (code .entry)) room ⌝ }
+{
+    let m = settings::layers(s);
+    let size = codes::block_size(m);
+    if frames::good_record(code, 1, size, 1, frames::BLOCKS_MOST) {
+        let k = codes::blocks_in(code, m);
+        match query_table::check_entries(s, k, room) {
+            Verdict::Refused(r) => Verdict::Refused(r),
+            Verdict::Accepted => {
+                let q = settings::digit_values(s);
+                codes::check_blocks(&code[4..], k, size, steps, q, 0)
+            }
+        }
+    } else {
+        Verdict::Refused(Refusal::Record(0))
+    }
+}
+
+// Refusals 1, 2 and 8, then those of the record and the table.
+fn check_query_by(s: Settings, steps: &[i32], code: &[u8], room: usize) -> Verdict
+    ensures { λ r. ⌜ r ≡ checkQueryBy s (now (steps .entry)) (now (code .entry)) room ⌝ }
+{
+    match asked::check_coder(s, steps) {
+        Verdict::Refused(r) => Verdict::Refused(r),
+        Verdict::Accepted => match query_table::check_table(s) {
+            Verdict::Refused(r) => Verdict::Refused(r),
+            Verdict::Accepted => check_record(s, steps.len(), code, room),
+        },
+    }
+}
+
+// The score of a code record by the lent table.
+pub fn query_score_by_table(s: Settings, steps: &[i32], code: &[u8], table: &[i32]) -> Answer
+    ensures answer { λ r. ⌜ r ≡ queryScoreBy s (now (steps .entry)) (now (code .entry)) (now (table .entry)) ⌝ }
+{
+    match check_query_by(s, steps, code, table.len()) {
+        Verdict::Refused(r) => refusals::refused(r),
+        Verdict::Accepted => {
+            let q = settings::base(s);
+            let m = settings::layers(s);
+            let k = codes::blocks_in(code, m);
+            Answer {
+                verdict: Verdict::Accepted,
+                value: query_total_by(table, steps, &code[4..], q, m, k),
+            }
+        }
+    }
+}
