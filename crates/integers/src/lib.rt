@@ -41,6 +41,13 @@ pub fn remainder(x: i64, m: i64, w: i64) -> i64
     if r < m { r } else { r - m }
 }
 
+// A byte as a count.
+pub fn wide(b: u8) -> usize
+    ensures { λ r. ⌜ (r ≡ b) × (r < 256) ⌝ }
+{
+    b as usize
+}
+
 // q to the power m.
 pub fn power(q: u64, m: u64) -> u64
     requires { ⌜ q ^ m < 2 ^ 64 ⌝ }

@@ -6,18 +6,15 @@ ghost use Rattle.layers.specs.Digits.{Below, IsLayer, entryOf, powers};
 ghost use Rattle.layers.specs.E8.{layerPoint8};
 ghost use Rattle.layers.specs.Table.{layerTable};
 
-fn wide(d: u8) -> usize
-    ensures { λ r. ⌜ (r ≡ d) × (r < 256) ⌝ }
-{
-    d as usize
-}
-
 // Four digits as one word, a byte each, the first least.
 fn four(ds: &[u8], at: usize) -> usize
     requires { ⌜ at + 4 ≤ length (now ds) ⌝ }
     ensures { λ r. ⌜ r ≡ entryOf 256 (take 4 (drop at (now (ds .entry)))) ⌝ }
 {
-    wide(ds[at]) + 256 * wide(ds[at + 1]) + 65536 * wide(ds[at + 2]) + 16777216 * wide(ds[at + 3])
+    integers::wide(ds[at])
+        + 256 * integers::wide(ds[at + 1])
+        + 65536 * integers::wide(ds[at + 2])
+        + 16777216 * integers::wide(ds[at + 3])
 }
 
 // The powers of q as one word, a byte each, the first greatest.

@@ -33,18 +33,12 @@ pub fn step_of(steps: &[i32], b: &[u8]) -> i64
     steps[b[0] as usize] as i64
 }
 
-fn wide(t: u8) -> usize
-    ensures { λ r. ⌜ (r ≡ t) × (r < 256) ⌝ }
-{
-    t as usize
-}
-
 // Refusal 7 in a block whose first byte has the place `first`: T not below the number of steps, or a digit not below q.
 fn check_block(b: &[u8], steps: usize, q: usize, first: usize) -> Verdict
     requires { ⌜ (1 ≤ length (now b)) × (first + length (now b) < 2 ^ 64) ⌝ }
     ensures { λ r. ⌜ r ≡ checkBlock steps q first (now (b .entry)) ⌝ }
 {
-    if wide(b[0]) < steps {
+    if integers::wide(b[0]) < steps {
         asked::check_below(&b[1..], q, first + 1)
     } else {
         Verdict::Refused(Refusal::Byte(first))

@@ -9,6 +9,7 @@ use borrow.Author.Tests.{le-leb, lt-leb}
 use lib.Dec.{leb}
 use lib.IntN.{ℤ, natAbs}
 use lib.ListN.{length, drop, length-drop}
+use Rattle.integers.specs.Laws.Loops.{rest-whole}
 use Rattle.refusals.specs.declared.Refusal.the-variants.{Size, Record}
 use Rattle.refusals.specs.declared.Verdict.{Verdict}
 use Rattle.refusals.specs.Laws.Verdicts.{first-last, first-append}
@@ -22,7 +23,6 @@ use Rattle.decoding.specs.Decode.{fvecsLength, checkDecode}
 use Rattle.records.specs.Frames.{goodRecord}
 use Rattle.records.specs.Laws.Asked.{CoderTaken, coder-accepted, frame-holds}
 use Rattle.records.specs.Laws.Frames.{Framed, record-framed}
-use Rattle.records.specs.Laws.Parts.{rest-whole}
 use Rattle.decoding.proofs.check_decode.Statement.{statement}
 use Rattle.decoding.proofs.check_decode.Tie as tie
 

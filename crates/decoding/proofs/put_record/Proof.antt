@@ -8,11 +8,12 @@ use borrow.Rule.Slice.PartMut.{putMid}
 use lib.IntN.{ℤ, natAbs}
 use lib.ListN.{length, take, drop, length-take, length-drop}
 use mir.Facts.{toZ-ofZ}
+use Rattle.integers.specs.Laws.Loops.{rest-whole}
 use Rattle.layers.specs.Digits.{joined, cut}
 use Rattle.readings.specs.Words.{bytesOf}
 use Rattle.records.specs.Codes.{AreBlocks, blockSize, blocksIn}
 use Rattle.decoding.specs.Decode.{decodedBytes, fvecsLength}
-use Rattle.records.specs.Laws.Parts.{rest-whole, write-rest}
+use Rattle.records.specs.Laws.Parts.{write-rest}
 use Rattle.decoding.proofs.put_record.Statement.{statement}
 use Rattle.decoding.proofs.put_record.Tie as tie
 

@@ -10,10 +10,10 @@ use lib.Seq.{sets, length-sets}
 use mir.Syntax.{w64}
 use mir.Val.{SFits, toZ, ofZ}
 use mir.Facts.{toZ-ofZ, toZ-pos}
+use Rattle.integers.specs.Laws.Loops.{rest-whole}
 use Rattle.layers.specs.Digits.{IsCode, cut}
 use Rattle.layers.specs.E8.{decode8}
 use Rattle.records.specs.Codes.{stepOf, wholePoint}
-use Rattle.records.specs.Laws.Parts.{rest-whole}
 use Rattle.listing.specs.Laws.Lengths.{Small, step-small, point-small, stepLine, layersLines, pointLine, listing-is, listing-long, listing-most}
 use Rattle.texts.specs.Laws.Rooms.{put-next}
 use Rattle.listing.specs.Listing.{line, layerLines}

@@ -15,7 +15,7 @@ use Rattle.refusals.specs.declared.settings.Settings.{Settings}
 use Rattle.refusals.specs.declared.Refusal.the-variants.{Table, Size, Record}
 use Rattle.refusals.specs.declared.Verdict.{Verdict}
 use Rattle.refusals.specs.declared.Verdict.the-variants.{Accepted}
-use Rattle.refusals.specs.Laws.Verdicts.{first-accepted, first-append}
+use Rattle.refusals.specs.Laws.Verdicts.{first-accepted, first-append, first-group}
 use Rattle.refusals.specs.Limits.{blocksMost}
 use Rattle.refusals.specs.Settings.{checkSettings}
 use Rattle.refusals.specs.Steps.{checkSteps}
@@ -23,7 +23,7 @@ use Rattle.refusals.specs.Verdicts.{unless, firstRefusal}
 use Rattle.scores.specs.Laws.Pair.{PairTaken, pair-taken}
 use Rattle.scores.specs.Scores.{checkCode, checkPair, checkQuery}
 use Rattle.tables.specs.Filling.{checkTable, checkEntries}
-use Rattle.tables.specs.Laws.Filling.{first-group, table-taken, entries-taken}
+use Rattle.tables.specs.Laws.Filling.{table-taken, entries-taken}
 use Rattle.lookups.specs.Scoring.{checkPairBy, recordBy, checkQueryBy}
 use Rattle.tables.specs.Tables.{pairMost, queryMost, pairSize, partSize}
 

@@ -6,18 +6,14 @@ use native.Mathlib.Nat.{mul-le-mul, le-refl}
 use native.Mathlib.Numerals.{add-one}
 use native.Mathlib.Omega.{arith}
 use lib.ListN.{length, getD, take, drop, length-append, length-drop, drop-of-length-le}
-use lib.Seq.{take-all, take-suc, take-at, drop-at, drop-drop}
-use Rattle.integers.specs.Laws.Loops.{map-at}
+use lib.Seq.{take-suc, take-at, drop-at, drop-drop}
+use Rattle.integers.specs.Laws.Loops.{map-at, rest-whole}
 use Rattle.layers.specs.Digits.{joined, cut}
 use Rattle.layers.specs.Laws.Loops.{write-in}
 
 -- a part ends where the next begins, which is not past the last part's end
 pub part-ends : (n i k : ℕ) → i < k → n * i + n ≤ n * k
 part-ends n i k h = let e : n * suc i ≤ n * k = mul-le-mul (le-refl n) h in omega arith
-
--- what is lent from a to the end is all from a on
-pub rest-whole : {A : Type 0} (a : ℕ) (f : List A) → take (length f - a) (drop a f) ≡ drop a f
-rest-whole a f = take-all (length f - a) (drop a f) (simp length-drop (omega arith))
 
 module _ {A : Type 0} (n : ℕ) (f : List A) where
   -- the parts from 0 on are all

@@ -43,3 +43,9 @@ pub first-append : (a b : List Verdict) → firstRefusal (a ++ b) ≡ firstRefus
 first-append [] b = refl
 first-append (Accepted ∷ a) b = first-append a b
 first-append (Refused r ∷ a) b = refl
+
+-- checks that stand together may be made as one
+pub first-group : (a b c : List Verdict) → firstRefusal (a ++ (b ++ c)) ≡ firstRefusal (a ++ (firstRefusal b ∷ c))
+first-group [] b c = first-append b c
+first-group (Accepted ∷ a) b c = first-group a b c
+first-group (Refused r ∷ a) b c = refl

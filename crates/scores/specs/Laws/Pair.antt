@@ -1,6 +1,6 @@
 -- The order of a pair score, and what it says that two records were taken for one.
-use mathlib.Core.Path.{_≡_, refl, sym, _∙_, ap₂}
-use mathlib.Core.List.{List, [], _∷_, _++_}
+use mathlib.Core.Path.{_≡_, _∙_, ap₂}
+use mathlib.Core.List.{List, [], _∷_}
 use Prim.Native.Nat.{ℕ}
 use lib.IntN.{ℤ, natAbs}
 use lib.ListN.{length}
@@ -8,20 +8,14 @@ use Rattle.records.specs.Codes.{blocksIn}
 use Rattle.records.specs.Laws.Asked.{CoderTaken, coder-taken, RecordTaken}
 use Rattle.refusals.specs.declared.settings.Settings.{Settings}
 use Rattle.refusals.specs.declared.Verdict.{Verdict}
-use Rattle.refusals.specs.declared.Verdict.the-variants.{Accepted, Refused}
-use Rattle.refusals.specs.Laws.Verdicts.{first-accepted, first-last, first-append}
+use Rattle.refusals.specs.declared.Verdict.the-variants.{Accepted}
+use Rattle.refusals.specs.Laws.Verdicts.{first-accepted, first-append, first-group}
 use Rattle.refusals.specs.Limits.{blocksMost}
 use Rattle.refusals.specs.Settings.{checkSettings}
 use Rattle.refusals.specs.Steps.{checkSteps}
 use Rattle.refusals.specs.Verdicts.{firstRefusal}
 use Rattle.scores.specs.Laws.Asked.{code-taken}
 use Rattle.scores.specs.Scores.{checkCode, checkPair}
-
--- checks that stand last may be made together, as one
-first-rest : (a b : List Verdict) → firstRefusal (a ++ b) ≡ firstRefusal (a ++ (firstRefusal b ∷ []))
-first-rest [] b = sym (first-last (firstRefusal b))
-first-rest (Accepted ∷ a) b = first-rest a b
-first-rest (Refused r ∷ a) b = refl
 
 -- settings, both step lists and both records of an accepted pair
 pub record PairTaken (c : Settings) (steps : List ℤ) (b : List ℕ) (steps′ : List ℤ) (b′ : List ℕ) : Type 0 where
@@ -49,7 +43,7 @@ module _ (c : Settings) (steps : List ℤ) (b : List ℕ) (steps′ : List ℤ) 
   unfolding checkPair
   pair-is v w d e =
       first-append (checkSettings c ∷ checkSteps 0 steps ∷ []) (checkSteps 1 steps′ ∷ here ∷ there ∷ [])
-      ∙ ap₂ (λ (v w : Verdict). firstRefusal (v ∷ w ∷ here ∷ there ∷ [])) d e ∙ first-rest (v ∷ w ∷ []) (here ∷ there ∷ [])
+      ∙ ap₂ (λ (v w : Verdict). firstRefusal (v ∷ w ∷ here ∷ there ∷ [])) d e ∙ first-group (v ∷ w ∷ []) (here ∷ there ∷ []) []
 
   pub pair-taken : checkPair c steps b steps′ b′ ≡ Accepted → PairTaken c steps b steps′ b′
   unfolding checkPair

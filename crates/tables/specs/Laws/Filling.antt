@@ -1,6 +1,6 @@
 -- The order of filling, and what it says that a filling was accepted.
-use mathlib.Core.Path.{_≡_, refl, sym, _∙_, ap, ap₂}
-use mathlib.Core.List.{List, [], _∷_, _++_}
+use mathlib.Core.Path.{_≡_, sym, _∙_, ap, ap₂}
+use mathlib.Core.List.{List, [], _∷_}
 use Prim.Native.Nat.{ℕ, _*_, _/_, _≤_}
 use borrow.Author.Tests.{leb-true}
 use lib.IntN.{ℤ, pos, natAbs}
@@ -17,18 +17,12 @@ use Rattle.refusals.specs.declared.Verdict.{Verdict}
 use Rattle.refusals.specs.declared.Verdict.the-variants.{Accepted, Refused}
 use Rattle.refusals.specs.Answers.{valued, written}
 use Rattle.refusals.specs.Laws.Allowed.{Allowed}
-use Rattle.refusals.specs.Laws.Verdicts.{unless-accepted, first-accepted, first-append}
+use Rattle.refusals.specs.Laws.Verdicts.{unless-accepted, first-accepted, first-append, first-group}
 use Rattle.refusals.specs.Limits.{blocksMost}
 use Rattle.refusals.specs.Settings.{checkSettings}
 use Rattle.refusals.specs.Verdicts.{firstRefusal}
 use Rattle.tables.specs.Filling.{checkTable, checkEntries, checkPairTable, lentAsked, queryTableAsked, checkQueryTable, queryFilled, queryTableRoom}
 use Rattle.tables.specs.Tables.{pairMost, queryMost, pairSize, partSize, queryTable}
-
--- checks that stand together may be made as one
-pub first-group : (a b c : List Verdict) → firstRefusal (a ++ (b ++ c)) ≡ firstRefusal (a ++ (firstRefusal b ∷ c))
-first-group [] b c = first-append b c
-first-group (Accepted ∷ a) b c = first-group a b c
-first-group (Refused r ∷ a) b c = refl
 
 -- ---- one check
 

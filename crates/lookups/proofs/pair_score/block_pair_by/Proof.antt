@@ -8,13 +8,13 @@ use lib.ListN.{length, take, drop, length-take, length-drop}
 use mir.Syntax.{w64}
 use mir.Val.{SFits, toZ}
 use mir.Facts.{toZ-ofZ}
+use Rattle.integers.specs.Laws.Loops.{rest-whole}
 use Rattle.integers.specs.Laws.Sizes.{fits-abs, fits-mul, abs-mul-le}
 use Rattle.integers.specs.Vectors.{«at»}
 use Rattle.layers.specs.Digits.{Below, IsLayer, IsLayers, IsCode, cut, entryOf}
 use Rattle.layers.specs.Laws.Loops.{code-layer}
 use Rattle.layers.specs.Laws.Rows.{cut-layers}
 use Rattle.records.specs.Codes.{stepOf}
-use Rattle.records.specs.Laws.Parts.{rest-whole}
 use Rattle.scores.specs.Laws.Sizes.{step-small}
 use Rattle.tables.specs.Laws.Entries.{entry-within, block-layer}
 use Rattle.lookups.specs.Laws.Rows.{entries-below, row-sum-is}

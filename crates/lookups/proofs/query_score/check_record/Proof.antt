@@ -6,12 +6,12 @@ use Prim.Native.Nat.{ℕ, _*_, _≤_}
 use native.Mathlib.Omega.{arith}
 use lib.IntN.{natAbs}
 use lib.ListN.{length, drop, length-drop}
+use Rattle.integers.specs.Laws.Loops.{rest-whole}
 use Rattle.layers.specs.Digits.{cut}
 use Rattle.records.specs.Codes.{blockSize, blocksIn, codeBlocks, checkBlocks}
 use Rattle.records.specs.Frames.{goodRecord}
 use Rattle.records.specs.Laws.Asked.{frame-holds}
 use Rattle.records.specs.Laws.Frames.{Framed, record-framed}
-use Rattle.records.specs.Laws.Parts.{rest-whole}
 use Rattle.refusals.specs.declared.Refusal.the-variants.{Record}
 use Rattle.refusals.specs.declared.Verdict.{Verdict}
 use Rattle.refusals.specs.Laws.Verdicts.{first-last}

@@ -5,6 +5,7 @@ use mathlib.Core.List.{List, [], _∷_}
 use Prim.Native.Nat.{ℕ, _*_, _≤_}
 use native.Mathlib.Omega.{arith}
 use lib.ListN.{length, drop, length-drop}
+use Rattle.integers.specs.Laws.Loops.{rest-whole}
 use Rattle.refusals.specs.declared.Refusal.the-variants.{Record}
 use Rattle.refusals.specs.declared.Verdict.{Verdict}
 use Rattle.refusals.specs.Laws.Verdicts.{first-last}
@@ -14,7 +15,6 @@ use Rattle.records.specs.Codes.{blockSize, blocksIn, codeBlocks, checkBlocks}
 use Rattle.records.specs.Frames.{goodRecord}
 use Rattle.records.specs.Laws.Asked.{frame-holds}
 use Rattle.records.specs.Laws.Frames.{Framed, record-framed}
-use Rattle.records.specs.Laws.Parts.{rest-whole}
 use Rattle.scores.specs.Scores.{checkCode}
 use Rattle.scores.proofs.codes.check_code.Statement.{statement}
 use Rattle.scores.proofs.codes.check_code.Tie as tie

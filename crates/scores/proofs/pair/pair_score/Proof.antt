@@ -9,9 +9,9 @@ use lib.ListN.{length, take, drop}
 use mir.Syntax.{w64}
 use mir.Val.{SFits, toZ, ofZ}
 use mir.Facts.{toZ-ofZ}
+use Rattle.integers.specs.Laws.Loops.{rest-whole}
 use Rattle.layers.specs.Digits.{cut}
 use Rattle.records.specs.Codes.{Coder, AreBlocks, blockSize, blocksIn}
-use Rattle.records.specs.Laws.Parts.{rest-whole}
 use Rattle.refusals.specs.declared.Verdict.{Verdict}
 use Rattle.refusals.specs.declared.Verdict.the-variants.{Accepted}
 use Rattle.refusals.specs.Answers.{valued}

@@ -9,9 +9,9 @@ use lib.ListN.{length, take, drop, length-append}
 use mir.Syntax.{w64}
 use mir.Val.{SFits}
 use mir.Facts.{toZ-ofZ}
+use Rattle.integers.specs.Laws.Loops.{rest-whole}
 use Rattle.layers.specs.Digits.{cut}
 use Rattle.records.specs.Codes.{AreBlocks, blockSize, blocksIn}
-use Rattle.records.specs.Laws.Parts.{rest-whole}
 use Rattle.scores.specs.Laws.Asked.{taken-block, exact-blocks}
 use Rattle.scores.specs.Scores.{total, blockQuery, queryTotal}
 use Rattle.tables.specs.Laws.Entries.{queryTable-long}

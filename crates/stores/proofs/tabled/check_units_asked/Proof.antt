@@ -5,10 +5,9 @@ use lib.IntN.{ℤ}
 use Rattle.records.specs.Vectors.{Hour, unitsHour, checkReadings}
 use Rattle.refusals.specs.declared.settings.Settings.{Settings}
 use Rattle.refusals.specs.declared.Verdict.{Verdict}
-use Rattle.refusals.specs.Laws.Verdicts.{first-last}
+use Rattle.refusals.specs.Laws.Verdicts.{first-last, first-group}
 use Rattle.refusals.specs.Verdicts.{firstRefusal}
 use Rattle.tables.specs.Filling.{lentAsked}
-use Rattle.tables.specs.Laws.Filling.{first-group}
 use Rattle.stores.specs.Laws.Tabled.{FirstTaken, first-taken, first-coder, asked-is}
 use Rattle.stores.specs.Tabled.{tableAsked}
 use Rattle.stores.proofs.tabled.check_units_asked.Statement.{statement}

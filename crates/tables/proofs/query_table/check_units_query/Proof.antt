@@ -3,10 +3,10 @@ use mathlib.Core.Path.{_≡_, sym, _∙_}
 use mathlib.Core.List.{[], _∷_}
 use Rattle.records.specs.Vectors.{Hour, unitsHour, checkReadings}
 use Rattle.refusals.specs.declared.Verdict.{Verdict}
-use Rattle.refusals.specs.Laws.Verdicts.{first-last}
+use Rattle.refusals.specs.Laws.Verdicts.{first-last, first-group}
 use Rattle.refusals.specs.Verdicts.{firstRefusal}
 use Rattle.tables.specs.Filling.{checkQueryTable, lentAsked}
-use Rattle.tables.specs.Laws.Filling.{first-group, q-taken, asked-is, query-table-is}
+use Rattle.tables.specs.Laws.Filling.{q-taken, asked-is, query-table-is}
 use Rattle.tables.proofs.query_table.check_units_query.Statement.{statement}
 use Rattle.tables.proofs.query_table.check_units_query.Tie as tie
 
