@@ -41,7 +41,7 @@ fn block_query_by(part: &[i32], steps: &[i32], b: &[u8], q: i64, m: usize) -> i6
 }
 
 // The sum over k coded blocks, each by its own part of the table.
-pub fn query_total_by(table: &[i32], steps: &[i32], body: &[u8], q: i64, m: usize, k: usize) -> i64
+fn total_by(table: &[i32], steps: &[i32], body: &[u8], q: i64, m: usize, k: usize) -> i64
     requires { ⌜ Coder q m (now steps) × AreBlocks (length (now steps)) (natAbs q) m k (now body) × (natAbs q ≤ queryMost) × (partSize (natAbs q) * k ≤ length (now table)) × (k ≤ 64) ⌝ }
     ensures { λ r. ⌜ r ≡ total (blockQueryBy (natAbs q) m (now (steps .entry))) (cut (partSize (natAbs q)) k (now (table .entry))) (cut (blockSize m) k (now (body .entry))) ⌝ }
 {
@@ -58,6 +58,20 @@ pub fn query_total_by(table: &[i32], steps: &[i32], body: &[u8], q: i64, m: usiz
         i = i + 1;
     }
     z
+}
+
+// The same with each q as a constant, so that a compiler makes shifts of the products with it.
+pub fn query_total_by(table: &[i32], steps: &[i32], body: &[u8], q: i64, m: usize, k: usize) -> i64
+    requires { ⌜ Coder q m (now steps) × AreBlocks (length (now steps)) (natAbs q) m k (now body) × (natAbs q ≤ queryMost) × (partSize (natAbs q) * k ≤ length (now table)) × (k ≤ 64) ⌝ }
+    ensures { λ r. ⌜ r ≡ total (blockQueryBy (natAbs q) m (now (steps .entry))) (cut (partSize (natAbs q)) k (now (table .entry))) (cut (blockSize m) k (now (body .entry))) ⌝ }
+{
+    if q == 2 {
+        return total_by(table, steps, body, 2, m, k);
+    }
+    if q == 3 {
+        return total_by(table, steps, body, 3, m, k);
+    }
+    total_by(table, steps, body, 4, m, k)
 }
 
 // Of a record and the lent table: refusal 10, 3 where the table is shorter than K·q^8 with the record's K, then 7.

@@ -1,226 +1,70 @@
--- `query_total_by` adds block after block: after i turns z is the total of the first i, each of which is small whatever its part holds.
-use mathlib.Core.Path.{_≡_, refl, sym, _∙_, ap, ap₂, subst}
-use mathlib.Core.List.{List}
-use Prim.Native.Nat.{ℕ, _+_, _*_, _-_, _^_, _≤_}
-use native.Mathlib.Nat.{mul-le-mul}
+-- `query_total_by` names q as a constant: 2, 3, or else 4, the last that has a table.
+use mathlib.Core.Path.{_≡_, sym, _∙_, ap, subst}
+use Prim.Native.Nat.{ℕ, _*_, _≤_}
 use native.Mathlib.Omega.{arith}
-use lib.IntN.{ℤ, natAbs, _+ℤ_}
-use lib.ListN.{length, take, drop, length-take, length-drop}
+use lib.IntN.{ℤ, pos, natAbs}
+use lib.ListN.{length}
 use mir.Syntax.{w64}
-use mir.Val.{SFits, toZ}
+use mir.Val.{SFits, toZ, ofZ}
 use mir.Facts.{toZ-ofZ}
-use Rattle.integers.specs.Laws.Sizes.{fits-abs, abs-add}
 use Rattle.layers.specs.Digits.{cut}
-use Rattle.records.specs.Codes.{IsBlock, blockSize}
-use Rattle.records.specs.Laws.Parts.{part-ends}
-use Rattle.scores.specs.Laws.Totals.{parts-more}
+use Rattle.layers.specs.Laws.Bases.{base-is, base-two}
+use Rattle.records.specs.Codes.{Coder, AreBlocks, blockSize}
 use Rattle.scores.specs.Scores.{total}
-use Rattle.tables.specs.Laws.Entries.{part-most}
+use Rattle.tables.specs.Tables.{queryMost, partSize}
 use Rattle.lookups.specs.Scoring.{blockQueryBy}
-use Rattle.tables.specs.Tables.{partSize}
 use Rattle.lookups.proofs.query_score.query_total_by.Statement.{statement}
 use Rattle.lookups.proofs.query_score.query_total_by.Tie as tie
 
-abbrev Inv-loop : tie.InvT-loop
-Inv-loop table steps body q m k size n z₀ i₀ z i =
-    (i ≤ k) × (toZ w64 z ≡ total (blockQueryBy (natAbs (toZ w64 q)) m steps) (cut (partSize (natAbs (toZ w64 q))) i table) (cut (blockSize m) i body)) × (natAbs (toZ w64 z) ≤ i * 2 ^ 53)
+-- the total and what it asks for, by what q is
+module _ (s : tie.Start) where
+  abbrev sum : ℤ → ℤ
+  sum z = total (blockQueryBy (natAbs z) (s .args .m) (s .args .steps .now)) (cut (partSize (natAbs z)) (s .args .k) (s .args .table .now)) (cut (blockSize (s .args .m)) (s .args .k) (s .args .body .now))
 
-abbrev μ-loop : tie.MeasureT-loop
-μ-loop table steps body q m k size n z₀ i₀ z i = k - i
+  abbrev Asked : ℤ → Type 0
+  Asked z = Coder z (s .args .m) (s .args .steps .now) × AreBlocks (length (s .args .steps .now)) (natAbs z) (s .args .m) (s .args .k) (s .args .body .now)
+      × (natAbs z ≤ queryMost) × (partSize (natAbs z) * s .args .k ≤ length (s .args .table .now)) × (s .args .k ≤ 64)
 
--- what stands at the loop's test
-module _ (l : tie.At-loop Inv-loop μ-loop) where
-  abbrev s : tie.Start Inv-loop μ-loop
-  s = l .before .before .before .before
+  -- a q whose word is that of n
+  named : (n : ℕ) → ofZ w64 (s .args .q) ≡ ofZ w64 (pos n) → SFits w64 (pos n) → s .args .q ≡ pos n
+  named n e f = sym (toZ-ofZ (s .fits .q)) ∙ ap (toZ w64) e ∙ toZ-ofZ f
 
-  abbrev q : ℕ
-  q = natAbs (s .args .q)
+small : (n : ℕ) → n ≤ 4 → SFits w64 (pos n)
+small n h = record { sfits = omega arith }
 
-  abbrev m : ℕ
-  m = s .args .m
+two : (c : tie.Then1) → c .before .before .args .q ≡ pos 2
+two c = named (c .before .before) 2 (c .if1 .taken) (small 2 (omega arith))
 
-  abbrev k : ℕ
-  k = s .args .k
+three : (c : tie.Then2) → c .before .before .before .args .q ≡ pos 3
+three c = named (c .before .before .before) 3 (c .if2 .taken) (small 3 (omega arith))
 
-  abbrev steps : List ℤ
-  steps = s .args .steps .now
+four : (c : tie.Else2) → c .before .before .before .args .q ≡ pos 4
+four c = let s = c .before .before .before in let q : ℤ = s .args .q in let b = base-is q (s .pre .0 .base) in
+    sym b ∙ ap pos (last (natAbs q) (base-two q (s .pre .0 .base)) (s .pre .2) (λ e. c .before .if1 .left (ap (ofZ w64) (sym b ∙ ap pos e))) (λ e. c .if2 .left (ap (ofZ w64) (sym b ∙ ap pos e))))
+  where
+    last : (n : ℕ) → 2 ≤ n → n ≤ 4 → (n ≡ 2 → ⊥) → (n ≡ 3 → ⊥) → n ≡ 4
+    last n l h p r = omega (arith, p, r)
 
-  abbrev table : List ℤ
-  table = s .args .table .now
+total-by-requires : tie.Need-total-by-requires
+total-by-requires c κs = let s = c .before .before in subst (Asked s) (two c) (s .pre)
 
-  abbrev body : List ℕ
-  body = s .args .body .now
+returns : tie.Need-returns
+returns c = let s = c .before .before .before in let f : SFits w64 (c .total-by .result) = record { sfits = c .total-by .ok } in
+    toZ-ofZ f ∙ c .total-by .ensures ∙ ap (sum s) (sym (two (c .before)))
 
-  abbrev i : ℕ
-  i = l .loop .i
+total-by-requires-2 : tie.Need-total-by-requires-2
+total-by-requires-2 c κs = let s = c .before .before .before in subst (Asked s) (three c) (s .pre)
 
-  abbrev z : ℤ
-  z = toZ w64 (l .loop .z)
+returns-2 : tie.Need-returns-2
+returns-2 c = let s = c .before .before .before .before in let f : SFits w64 (c .total-by2 .result) = record { sfits = c .total-by2 .ok } in
+    toZ-ofZ f ∙ c .total-by2 .ensures ∙ ap (sum s) (sym (three (c .before)))
 
-  abbrev f : List ℤ → List ℕ → ℤ
-  f = blockQueryBy q m steps
+total-by-requires-3 : tie.Need-total-by-requires-3
+total-by-requires-3 c κs = let s = c .before .before .before in subst (Asked s) (four c) (s .pre)
 
-  abbrev sum : ℕ → ℤ
-  sum j = total f (cut (partSize q) j table) (cut (blockSize m) j body)
-
-  sum-is : z ≡ sum i
-  sum-is = simp (toZ-ofZ, s .fits .q) at (l .loop .inv .1)
-
-  size-is : l .before .before .part-size .result ≡ partSize q
-  size-is = l .before .before .part-size .ensures ∙ ap (λ (z : ℤ). partSize (natAbs z)) (toZ-ofZ (s .fits .q))
-
-  n-is : l .before .block-size .result ≡ blockSize m
-  n-is = l .before .block-size .ensures
-
--- block i and its part
-module _ (c : tie.In-loop Inv-loop μ-loop) where
-  abbrev l : tie.At-loop Inv-loop μ-loop
-  l = c .before
-
-  abbrev n : ℕ
-  n = l .before .block-size .result
-
-  abbrev size : ℕ
-  size = l .before .before .part-size .result
-
-  ends : n * i l + n ≤ length (body l)
-  ends = subst (λ (n : ℕ). n * i l + n ≤ length (body l)) (sym (n-is l)) (omega (arith, part-ends (blockSize (m l)) (i l) (k l) (c .loop-test .taken), s l .pre .1 .long))
-
-  ends-part : size * i l + size ≤ length (table l)
-  ends-part = subst (λ (n : ℕ). n * i l + n ≤ length (table l)) (sym (size-is l)) (omega (arith, part-ends (partSize (q l)) (i l) (k l) (c .loop-test .taken), s l .pre .3))
-
-  within : size * i l + size ≤ 2 ^ 22
-  within = subst (λ (n : ℕ). n * i l + n ≤ 2 ^ 22) (sym (size-is l)) (omega (arith, part-ends (partSize (q l)) (i l) (k l) (c .loop-test .taken), mul-le-mul (part-most (q l) (s l .pre .2)) (s l .pre .4)))
-
-  abbrev part : List ℤ
-  part = take (partSize (q l)) (drop (partSize (q l) * i l) (table l))
-
-  part-is : take (size * i l + size - size * i l) (drop (size * i l) (table l)) ≡ part
-  part-is = let whole : size * i l + size - size * i l ≡ size = omega arith in ap₂ (λ (j n : ℕ). take j (drop (n * i l) (table l))) (whole ∙ size-is l) (size-is l)
-
-  part-long : length part ≡ partSize (q l)
-  part-long = simp (length-take, length-drop) (omega (arith, part-ends (partSize (q l)) (i l) (k l) (c .loop-test .taken), s l .pre .3))
-
-  abbrev block : List ℕ
-  block = take (blockSize (m l)) (drop (blockSize (m l) * i l) (body l))
-
-  block-is : take (n * i l + n - n * i l) (drop (n * i l) (body l)) ≡ block
-  block-is = let whole : n * i l + n - n * i l ≡ n = omega arith in ap₂ (λ (j n : ℕ). take j (drop (n * i l) (body l))) (whole ∙ n-is l) (n-is l)
-
--- it is added
-module _ (c : tie.After-block-query-by Inv-loop μ-loop) where
-  abbrev b : tie.In-loop Inv-loop μ-loop
-  b = c .before .before .before
-
-  abbrev t : tie.At-loop Inv-loop μ-loop
-  t = l b
-
-  abbrev y : ℤ
-  y = c .block-query-by .result
-
-  y-fits : SFits w64 y
-  y-fits = record { sfits = c .block-query-by .ok }
-
-  more-is : z t +ℤ y ≡ sum t (i t + 1)
-  more-is =
-      ap₂ _+ℤ_ (sum-is t) ((simp (toZ-ofZ, s t .fits .q) at (c .block-query-by .ensures .0)) ∙ ap₂ (f t) (part-is b) (block-is b))
-      ∙ sym (parts-more (f t) (partSize (q t)) (blockSize (m t)) (table t) (body t) (i t))
-
-  more-small : natAbs (z t +ℤ y) ≤ (i t + 1) * 2 ^ 53
-  more-small = omega (arith, abs-add (z t) y, t .loop .inv .2, c .block-query-by .ensures .1)
-
-  more-fits : SFits w64 (z t +ℤ y)
-  more-fits = fits-abs _ (omega (arith, more-small, s t .pre .4, b .loop-test .taken))
-
-part-size-requires : tie.Need-part-size-requires Inv-loop μ-loop
-part-size-requires c κs = let s = c .before in simp (toZ-ofZ, s .fits .q) (s .pre .0 .base, s .pre .2)
-
-block-size-requires : tie.Need-block-size-requires Inv-loop μ-loop
-block-size-requires c κs = omega (arith, c .before .before .pre .0 .few)
-
-loop-holds : tie.Need-loop-holds Inv-loop μ-loop
-loop-holds c = (omega arith, refl, omega arith)
-
-mul-from : tie.Need-mul-from Inv-loop μ-loop
-mul-from c = omega (arith, within c)
-
-add-to : tie.Need-add-to Inv-loop μ-loop
-add-to c = omega (arith, within c)
-
-mul-at : tie.Need-mul-at Inv-loop μ-loop
-mul-at c = omega (arith, ends c)
-
-add-end : tie.Need-add-end Inv-loop μ-loop
-add-end c = omega (arith, ends c)
-
-mul-block-query-by : tie.Need-mul-block-query-by Inv-loop μ-loop
-mul-block-query-by c = omega (arith, within c)
-
-sub-block-query-by : tie.Need-sub-block-query-by Inv-loop μ-loop
-sub-block-query-by c = omega arith
-
-part-block-query-by-start : tie.Need-part-block-query-by-start Inv-loop μ-loop
-part-block-query-by-start c = omega arith
-
-part-block-query-by-end : tie.Need-part-block-query-by-end Inv-loop μ-loop
-part-block-query-by-end c = omega (arith, ends-part c)
-
-sub-block-query-by-2 : tie.Need-sub-block-query-by-2 Inv-loop μ-loop
-sub-block-query-by-2 c = omega arith
-
-part-block-query-by-start-2 : tie.Need-part-block-query-by-start-2 Inv-loop μ-loop
-part-block-query-by-start-2 c = omega arith
-
-part-block-query-by-end-2 : tie.Need-part-block-query-by-end-2 Inv-loop μ-loop
-part-block-query-by-end-2 c = omega (arith, ends (c .before))
-
-block-query-by-requires : tie.Need-block-query-by-requires Inv-loop μ-loop
-block-query-by-requires c κs = let b = c .before .before in let t = l b in
-    simp (toZ-ofZ, s t .fits .q) (
-      s t .pre .0,
-      subst (IsBlock (length (steps t)) (q t) (m t)) (sym (block-is b)) (s t .pre .1 .each (i t) (b .loop-test .taken)),
-      s t .pre .2,
-      ap length (part-is b) ∙ part-long b,
-    )
-
-add-z : tie.Need-add-z Inv-loop μ-loop
-add-z c = simp (toZ-ofZ, y-fits c) (more-fits c)
-
-add-i : tie.Need-add-i Inv-loop μ-loop
-add-i c = omega arith
-
-loop-less : tie.Need-loop-less Inv-loop μ-loop
-loop-less c = omega arith
-
-loop-again : tie.Need-loop-again Inv-loop μ-loop
-loop-again c = (omega arith, simp (toZ-ofZ, s (t c) .fits .q, y-fits c, more-fits c) (more-is c), simp (toZ-ofZ, y-fits c, more-fits c) (more-small c))
-
-returns : tie.Need-returns Inv-loop μ-loop
-returns c = let l = c .before in let n : i l ≡ k l = omega arith in sum-is l ∙ ap (sum l) n
+returns-3 : tie.Need-returns-3
+returns-3 c = let s = c .before .before .before .before in let f : SFits w64 (c .total-by3 .result) = record { sfits = c .total-by3 .ok } in
+    toZ-ofZ f ∙ c .total-by3 .ensures ∙ ap (sum s) (sym (four (c .before)))
 
 pub query-total-by-spec : {M : Type 1} → statement M
-query-total-by-spec =
-    tie.close
-    (tie.spec
-    Inv-loop
-    μ-loop
-    part-size-requires
-    block-size-requires
-    loop-holds
-    mul-from
-    add-to
-    mul-at
-    add-end
-    mul-block-query-by
-    sub-block-query-by
-    part-block-query-by-start
-    part-block-query-by-end
-    sub-block-query-by-2
-    part-block-query-by-start-2
-    part-block-query-by-end-2
-    block-query-by-requires
-    add-z
-    add-i
-    loop-less
-    loop-again
-    returns)
+query-total-by-spec = tie.close (tie.spec total-by-requires returns total-by-requires-2 returns-2 total-by-requires-3 returns-3)
