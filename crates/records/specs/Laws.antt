@@ -7,3 +7,5 @@ pub mod Codes
 pub mod Least
 pub mod Asked
 pub mod Points
+pub mod Lanes
+pub mod LanePoints

@@ -2,4 +2,5 @@
 pub mod Frames
 pub mod Vectors
 pub mod Codes
+pub mod Lanes
 pub mod Laws

@@ -41,6 +41,12 @@ module _ {A : Type 0} (n : ℕ) where
       go (suc i) f = let s : n + n * i ≡ n * suc i = omega arith in
           ap (λ (r : List (List A)). take n f ∷ r) (go i (drop n f) ∙ ap (λ (g : List A). cut n i (drop n f) ++ (take n g ∷ [])) (drop-drop (n * i) n f ∙ ap (λ (j : ℕ). drop j f) s))
 
+  -- k parts after i
+  pub cut-add : (i k : ℕ) (f : List A) → cut n (i + k) f ≡ cut n i f ++ cut n k (drop (n * i) f)
+  cut-add zero k f = let e : 0 + k ≡ k = omega arith in let z : 0 ≡ n * 0 = omega arith in ap₂ (λ (k j : ℕ). cut n k (drop j f)) e z
+  cut-add (suc i) k f = let e : suc i + k ≡ suc (i + k) = omega arith in let s : n + n * i ≡ n * suc i = omega arith in
+      ap (λ (j : ℕ). cut n j f) e ∙ ap (λ (r : List (List A)). take n f ∷ r) (cut-add i k (drop n f) ∙ ap (λ (g : List A). cut n i (drop n f) ++ cut n k g) (drop-drop (n * i) n f ∙ ap (λ (j : ℕ). drop j f) s))
+
   -- part i of k
   pub cut-at : (k i : ℕ) (f : List A) → i < k → getD (cut n k f) i [] ≡ take n (drop (n * i) f)
   cut-at zero i f h = absurd (omega arith)
