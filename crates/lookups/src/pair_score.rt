@@ -12,7 +12,6 @@ ghost use Rattle.scores.specs.Scores.{total};
 ghost use Rattle.lookups.specs.Laws.Sums.{powerSum};
 ghost use Rattle.lookups.specs.Scoring.{blockPairBy, checkPairBy, pairScoreBy};
 ghost use Rattle.tables.specs.Tables.{pairSize};
-use tables::pair_table;
 use layers::lookup;
 use records::asked;
 use records::codes;
@@ -20,6 +19,7 @@ use refusals::Answer;
 use refusals::Verdict;
 use refusals::settings;
 use refusals::settings::Settings;
+use tables::pair_table;
 
 // The most layers of a block.
 const LAYERS_MOST: usize = 4;

@@ -9,8 +9,6 @@ ghost use Rattle.scores.specs.Scores.{total};
 ghost use Rattle.refusals.specs.Laws.Allowed.{Allowed};
 ghost use Rattle.lookups.specs.Scoring.{blockQueryBy, recordBy, checkQueryBy, queryScoreBy};
 ghost use Rattle.tables.specs.Tables.{queryMost, partSize};
-use tables::parts;
-use tables::query_table;
 use layers::lookup;
 use records::asked;
 use records::codes;
@@ -20,6 +18,8 @@ use refusals::Refusal;
 use refusals::Verdict;
 use refusals::settings;
 use refusals::settings::Settings;
+use tables::parts;
+use tables::query_table;
 
 // A coded block by its part of the table, from the top layer down: its entry, and q times what the layers above it gave; all of it s times.
 fn block_query_by(part: &[i32], steps: &[i32], b: &[u8], q: i64, m: usize) -> i64

@@ -7,7 +7,7 @@ use lib.Dec.{ltb}
 use lib.IntN.{ℤ, pos}
 use lib.ListN.{length, getD, take, drop, replicate}
 use Rattle.integers.specs.Vectors.{addV, scaleV, Sized}
-use Rattle.layers.specs.Columns.{column, Square8}
+use Rattle.columns.specs.Columns.{column, Square8}
 use Rattle.layers.specs.E8.{decode8}
 use Rattle.records.specs.Codes.{blockSize, wholePoint}
 

@@ -6,7 +6,7 @@ ghost use lib.IntN.{pos, natAbs};
 ghost use lib.ListN.{length, take, drop};
 ghost use Rattle.integers.specs.Laws.Loops.{range};
 ghost use Rattle.integers.specs.Vectors.{addV, scaleV};
-ghost use Rattle.layers.specs.Columns.{column, Square8};
+ghost use Rattle.columns.specs.Columns.{column, Square8};
 ghost use Rattle.layers.specs.Digits.{IsLayer, IsCode, cut};
 ghost use Rattle.layers.specs.E8.{layerPoint8, decode8};
 ghost use Rattle.layers.specs.Table.{TableFor, layerTable};
@@ -14,7 +14,6 @@ ghost use Rattle.refusals.specs.Limits.{mMost};
 ghost use Rattle.records.specs.Codes.{Digital, AreCodes, blockSize, wholePoint};
 ghost use Rattle.records.specs.Lanes.{Summable, SummableRows, SummedRows, Gathered, BlockPoints};
 use crate::codes;
-use layers::columns;
 use layers::lookup;
 
 // The layer i of n blocks side by side, with zeros past the last.

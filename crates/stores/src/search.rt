@@ -15,13 +15,13 @@ use crate::Best;
 use crate::HourAnswer;
 use crate::checks;
 use layers::table;
+use lookups::query_score;
 use readings::words;
 use refusals::Verdict;
 use refusals::settings;
 use refusals::settings::Settings;
 use scores::hours;
 use scores::query;
-use lookups::query_score;
 
 // The score of readings X with one record: looked up where entries are lent, and else summed from its points, made in the lent rows.
 fn record_total(

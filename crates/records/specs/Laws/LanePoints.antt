@@ -11,7 +11,7 @@ use Rattle.integers.specs.Laws.Loops.{map-at, range, range-long, range-at}
 use Rattle.integers.specs.Laws.Sizes.{abs-mul}
 use Rattle.integers.specs.Laws.Sums.{entries, lengths, length-scaleV}
 use Rattle.integers.specs.Vectors.{«at», zeros, addV, scaleV, Sized}
-use Rattle.layers.specs.Columns.{column, Square8, LayerColumns, PointColumns}
+use Rattle.columns.specs.Columns.{column, Square8, LayerColumns, PointColumns}
 use Rattle.layers.specs.Digits.{IsLayer, IsCode, cut}
 use Rattle.layers.specs.E8.{e8, nearest, layerPoint8, decode8}
 use Rattle.layers.specs.Laws.Bases.{base-is, base-two}

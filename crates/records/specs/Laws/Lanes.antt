@@ -10,9 +10,9 @@ use borrow.Author.Tests.{lt-ltb, le-ltb}
 use lib.ListN.{length, getD, take, drop, set, replicate, length-append, length-take, length-drop, length-replicate, length-map, getD-replicate, take-append-drop, replicate-append-replicate}
 use lib.Seq.{take-nil, take-at, take-take, drop-at, drop-drop, drop-cons, set-at, append-snoc, getD-set-other, map-set-same}
 use Rattle.integers.specs.Laws.Loops.{Filled, filled-more, filled-all, range, range-long}
-use Rattle.layers.specs.Columns.{column, Square8}
+use Rattle.columns.specs.Columns.{column, Square8}
 use Rattle.layers.specs.Digits.{IsCode}
-use Rattle.layers.specs.Laws.Columns.{put-square, put-here}
+use Rattle.columns.specs.Laws.Columns.{put-square, put-here}
 use Rattle.layers.specs.Laws.Rows.{below-all}
 use Rattle.records.specs.Codes.{AreCodes, blockSize}
 use Rattle.records.specs.Lanes.{blockAt, laneDigits, Gathered}

@@ -7,7 +7,7 @@ use lib.IntN.{ℤ, natAbs}
 use mir.Syntax.{w16}
 use mir.Val.{toZ, ofZ}
 use mir.Facts.{toZ-ofZ}
-use Rattle.layers.specs.Columns.{PointColumns}
+use Rattle.columns.specs.Columns.{PointColumns}
 use Rattle.records.specs.Lanes.{Gathered, LanePoints}
 use Rattle.records.specs.Laws.LanePoints.{all-layers, lanes-none, lanes-layers, lanes-summable, lanes-more}
 use Rattle.records.proofs.points.eight_points.Statement.{statement}

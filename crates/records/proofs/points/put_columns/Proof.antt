@@ -6,7 +6,7 @@ use native.Mathlib.Omega.{arith}
 use lib.IntN.{ℤ, pos}
 use lib.ListN.{length, take, drop, set}
 use Rattle.integers.specs.Laws.Loops.{range}
-use Rattle.layers.specs.Columns.{column}
+use Rattle.columns.specs.Columns.{column}
 use Rattle.records.specs.Laws.Lanes.{columns-start, columns-more, columns-long}
 use Rattle.records.proofs.points.put_columns.Statement.{statement}
 use Rattle.records.proofs.points.put_columns.Tie as tie

@@ -9,13 +9,12 @@ use lib.ListN.{length, take, drop}
 use mir.Syntax.{w16}
 use mir.Val.{toZ}
 use mir.Facts.{toZ-ofZ}
-use Rattle.integers.specs.Laws.Loops.{range}
-use Rattle.layers.specs.Columns.{column}
+use Rattle.integers.specs.Laws.Loops.{range, rest-whole}
+use Rattle.columns.specs.Columns.{column}
 use Rattle.layers.specs.Digits.{cut}
 use Rattle.records.specs.Codes.{AreCodes, blockSize, wholePoint}
 use Rattle.records.specs.Lanes.{BlockPoints}
 use Rattle.records.specs.Laws.LanePoints.{codes-from, group-more}
-use Rattle.records.specs.Laws.Parts.{rest-whole}
 use Rattle.records.specs.Laws.Points.{rows-long}
 use Rattle.records.proofs.points.ruled_points.Statement.{statement}
 use Rattle.records.proofs.points.ruled_points.Tie as tie
