@@ -104,6 +104,8 @@ void stores(void) {
     growth(4, 3, 8, MOST);
     growth(4, 1, 8, MOST);
     growth(4, 4, 8, MOST);
+    growth(3, 3, 8, 1000);
+    growth(3, 3, 8, MOST);
     growth(2, 4, 1, 1000);
     growth(2, 4, 8, 1000);
     growth(2, 4, 64, 1000);

@@ -8,7 +8,6 @@ use lib.IntN.{ℤ, natAbs}
 use lib.ListN.{length, getD, take, drop, length-take, length-drop}
 use Rattle.blocks.specs.Trials.{pointAt, firstFitting, blockCode}
 use Rattle.layers.specs.E8.{e8, nearest}
-use Rattle.readings.specs.declared.Measured.the-variants as measured
 use Rattle.refusals.specs.declared.settings.Settings.{Settings}
 use Rattle.refusals.specs.declared.Refusal.the-variants.{Size}
 use Rattle.refusals.specs.declared.Verdict.{Verdict}

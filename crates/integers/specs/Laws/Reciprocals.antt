@@ -1,15 +1,13 @@
 -- Division by one number many times: 2^32 over it once, and a product for each quotient.
 use mathlib.Core.Path.{_≡_, refl, sym, _∙_, ap}
-use mathlib.Core.Bool.{Bool, true, false, cond}
 use Prim.Native.Nat.{ℕ, suc, _+_, _*_, _/_, _%_, _<_, _≤_}
 use native.Mathlib.Nat.{mul-le-mul, le-refl, div-add-mod, mod-lt}
 use native.Mathlib.Omega.{arith}
 use lib.IntN.{ℤ, pos, negsuc, natAbs, _+ℤ_, _-ℤ_, _*ℤ_}
-use lib.Signed.{_≤ℤ_, _<ℤ_, ltZ, quotZ, shrZ, pos-natAbs, yes-nonNeg}
+use lib.Signed.{_≤ℤ_, _<ℤ_, quotZ, pos-natAbs, yes-nonNeg}
 use Rattle.integers.specs.Floor.{floorDiv, floorMod, reciprocal}
 use Rattle.integers.specs.Laws.Difference.{abs-D, byD, ints, byD₂}
-use Rattle.integers.specs.Laws.Floors.{floorMod-lt, floor-split, floor-unique, floorDiv-shr, byPos}
-use Rattle.integers.specs.Laws.Sizes.{ltZ-true, ltZ-false}
+use Rattle.integers.specs.Laws.Floors.{floorMod-lt, floor-split, floor-unique, byPos}
 
 pub reciprocal-quot : (m : ℤ) → pos 1 ≤ℤ m → quotZ (pos 4294967296) m ≡ pos (reciprocal (natAbs m))
 reciprocal-quot = byPos _ λ n. refl
