@@ -106,6 +106,7 @@ fn put_columns(e: &[[i16; 8]; 8], n: usize, i: usize, rows: &mut [[i16; 8]; 64])
     }
 }
 
+// The lesser of two counts.
 fn least(a: usize, b: usize) -> usize
     ensures { λ r. ⌜ (r ≤ a) × (r ≤ b) × (0 < a → 0 < b → 0 < r) ⌝ }
 {
