@@ -1,6 +1,6 @@
 // Arithmetic that the machine does not have: division by a positive number that rounds down, and powers; tests of ranges.
 ghost use mathlib.Core.Path.{_≡_};
-ghost use Prim.Native.Nat.{_^_, _<_, _≤_};
+ghost use Prim.Native.Nat.{_^_, _<_, _≤_, min};
 ghost use lib.IntN.{pos, natAbs};
 ghost use lib.Signed.{_≤ℤ_};
 ghost use Rattle.integers.specs.Floor.{floorDiv, floorMod, reciprocal};
@@ -60,6 +60,13 @@ pub fn power(q: u64, m: u64) -> u64
         i = i + 1;
     }
     p
+}
+
+// The smaller of two counts.
+pub fn smaller(a: usize, b: usize) -> usize
+    ensures { λ r. ⌜ r ≡ min a b ⌝ }
+{
+    if a < b { a } else { b }
 }
 
 // Whether x lies from least to most.

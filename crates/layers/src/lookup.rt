@@ -42,21 +42,21 @@ pub fn entry_number(ds: &[u8], q: usize) -> usize
 }
 
 // Eight signed bytes as numbers.
-fn row(t: &[i8]) -> [i64; 8]
+fn row(t: &[i8]) -> [i16; 8]
     requires { ⌜ length (now t) ≡ 8 ⌝ }
     ensures { λ r. ⌜ r ≡ now (t .entry) ⌝ }
 {
-    let mut r: [i64; 8] = [0; 8];
+    let mut r: [i16; 8] = [0; 8];
     let mut k: usize = 0;
     while k < 8 {
-        r[k] = t[k] as i64;
+        r[k] = t[k] as i16;
         k = k + 1;
     }
     r
 }
 
 // The layer point of eight digits below 2, from the table.
-pub fn table_point(t: &[i8], ds: &[u8]) -> [i64; 8]
+pub fn table_point(t: &[i8], ds: &[u8]) -> [i16; 8]
     requires { ⌜ (now t ≡ layerTable) × IsLayer 8 2 (now ds) ⌝ }
     ensures { λ r. ⌜ r ≡ layerPoint8 2 (now (ds .entry)) ⌝ }
 {

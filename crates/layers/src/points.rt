@@ -28,6 +28,20 @@ fn widened(ds: &[u8]) -> [i64; 8]
     r
 }
 
+// A layer point of the table in 64 bits.
+fn wide_point(l: &[i16; 8]) -> [i64; 8]
+    requires { ⌜ length (now l) ≡ 8 ⌝ }
+    ensures { λ r. ⌜ r ≡ now (l .entry) ⌝ }
+{
+    let mut r: [i64; 8] = [0; 8];
+    let mut k: usize = 0;
+    while k < 8 {
+        r[k] = l[k] as i64;
+        k = k + 1;
+    }
+    r
+}
+
 // a and k times b.
 fn plus_times(a: &[i64; 8], b: &[i64; 8], k: i64) -> [i64; 8]
     requires { ⌜ Sized 8 (2 ^ 30) (now a) × Sized 8 (2 ^ 30) (now b) × (natAbs k ≤ 2 ^ 30) ⌝ }
@@ -59,7 +73,7 @@ pub fn layer_point(t: &[i8], ds: &[u8], q: i64) -> [i64; 8]
     ensures { λ r. ⌜ r ≡ layerPoint8 (natAbs q) (now (ds .entry)) ⌝ }
 {
     if q == 2 {
-        lookup::table_point(t, ds)
+        wide_point(&lookup::table_point(t, ds))
     } else {
         ruled_point(ds, q)
     }

@@ -7,8 +7,8 @@ ghost use lib.ListN.{length, take, drop};
 ghost use Rattle.integers.specs.Laws.Loops.{range};
 ghost use Rattle.integers.specs.Vectors.{addV, scaleV};
 ghost use Rattle.columns.specs.Columns.{column, Square8};
-ghost use Rattle.layers.specs.Digits.{IsLayer, IsCode, cut};
-ghost use Rattle.layers.specs.E8.{layerPoint8, decode8};
+ghost use Rattle.layers.specs.Digits.{IsCode, cut};
+ghost use Rattle.layers.specs.E8.{decode8};
 ghost use Rattle.layers.specs.Table.{TableFor, layerTable};
 ghost use Rattle.refusals.specs.Limits.{mMost};
 ghost use Rattle.records.specs.Codes.{Digital, AreCodes, blockSize, wholePoint};
@@ -106,13 +106,6 @@ fn put_columns(e: &[[i16; 8]; 8], n: usize, i: usize, rows: &mut [[i16; 8]; 64])
     }
 }
 
-// The lesser of two counts.
-fn least(a: usize, b: usize) -> usize
-    ensures { λ r. ⌜ (r ≤ a) × (r ≤ b) × (0 < a → 0 < b → 0 < r) ⌝ }
-{
-    if a < b { a } else { b }
-}
-
 // The points of k blocks by the rule, eight side by side.
 fn ruled_points(body: &[u8], q: i16, m: usize, k: usize, rows: &mut [[i16; 8]; 64])
     requires { ⌜ Digital q m × AreCodes (natAbs q) m k (now body) × (k ≤ 64) × (length (now rows) ≡ 64) ⌝ }
@@ -121,36 +114,12 @@ fn ruled_points(body: &[u8], q: i16, m: usize, k: usize, rows: &mut [[i16; 8]; 6
     let size = codes::block_size(m);
     let mut i: usize = 0;
     while i < k {
-        let n = least(8, k - i);
+        let n = integers::smaller(8, k - i);
         let at = size * i;
         let e = eight_points(&body[at..], n, q, m);
         put_columns(&e, n, i, rows);
         i = i + n;
     }
-}
-
-// Eight signed bytes as numbers.
-fn table_row(t: &[i8]) -> [i16; 8]
-    requires { ⌜ length (now t) ≡ 8 ⌝ }
-    ensures { λ r. ⌜ r ≡ now (t .entry) ⌝ }
-{
-    let mut r: [i16; 8] = [0; 8];
-    let mut k: usize = 0;
-    while k < 8 {
-        r[k] = t[k] as i16;
-        k = k + 1;
-    }
-    r
-}
-
-// The layer point of eight digits below 2, from the table.
-fn table_layer(t: &[i8], ds: &[u8]) -> [i16; 8]
-    requires { ⌜ (now t ≡ layerTable) × IsLayer 8 2 (now ds) ⌝ }
-    ensures { λ r. ⌜ r ≡ layerPoint8 2 (now (ds .entry)) ⌝ }
-{
-    let at = 8 * lookup::entry_number(ds, 2);
-    let end = at + 8;
-    table_row(&t[at..end])
 }
 
 // The whole point of m layers of digits below 2, from the top one down.
@@ -164,7 +133,7 @@ fn table_point(t: &[i8], ds: &[u8], m: usize) -> [i16; 8]
         i = i - 1;
         let at = 8 * i;
         let end = at + 8;
-        let l = table_layer(t, &ds[at..end]);
+        let l = lookup::table_point(t, &ds[at..end]);
         e = plus_times(&l, &e, 2);
     }
     e

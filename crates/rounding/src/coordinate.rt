@@ -1,7 +1,7 @@
 // One coordinate: rounded to the nearest multiple of 2s, what that leaves, and the key that orders what is left.
 ghost use mathlib.Core.Path.{_≡_};
 ghost use mathlib.Core.Bool.{cond};
-ghost use Prim.Native.Nat.{_^_, _≤_, _<_, min, max};
+ghost use Prim.Native.Nat.{_^_, _≤_, _<_, max};
 ghost use lib.IntN.{pos, natAbs, _*ℤ_};
 ghost use Rattle.rounding.specs.Rounding.{Divisor, reciprocal, rounded, sign, lowered, key, spot};
 
@@ -70,13 +70,6 @@ pub(crate) fn greater(a: usize, b: usize) -> usize
     ensures { λ r. ⌜ r ≡ max a b ⌝ }
 {
     if a < b { b } else { a }
-}
-
-// The smaller of two keys.
-pub(crate) fn smaller(a: usize, b: usize) -> usize
-    ensures { λ r. ⌜ r ≡ min a b ⌝ }
-{
-    if a < b { a } else { b }
 }
 
 // The entry that a key is of.

@@ -51,7 +51,7 @@ fn seen(c: Scan, f: i64, a: i64, s: i64, i: usize) -> Scan
     let b = coordinate::lowered(a, s);
     Scan {
         most: coordinate::greater(c.most, k),
-        least: coordinate::smaller(c.least, k),
+        least: integers::smaller(c.least, k),
         keys: c.keys + k,
         sum: c.sum + f,
         even: c.even + a * a,

@@ -4,28 +4,6 @@ ghost use Prim.Native.Nat.{_-_, _^_};
 ghost use Rattle.integers.specs.Vectors.{dot, Sized};
 ghost use Rattle.scores.specs.Scores.{inner};
 
-// The sum of a_i·b_i.
-pub fn dot(a: &[i64; 8], b: &[i64; 8]) -> i64
-    requires { ⌜ Sized 8 (2 ^ 24) (now a) × Sized 8 (2 ^ 24) (now b) ⌝ }
-    ensures { λ r. ⌜ r ≡ dot (now (a .entry)) (now (b .entry)) ⌝ }
-{
-    let mut t: i64 = 0;
-    let mut i: usize = 0;
-    while i < 8 {
-        t = t + a[i] * b[i];
-        i = i + 1;
-    }
-    t
-}
-
-// The inner product of two points that are held doubled: a quarter of that sum.
-pub fn inner(e: &[i64; 8], f: &[i64; 8]) -> i64
-    requires { ⌜ Sized 8 (2 ^ 24) (now e) × Sized 8 (2 ^ 24) (now f) ⌝ }
-    ensures { λ r. ⌜ r ≡ inner (now (e .entry)) (now (f .entry)) ⌝ }
-{
-    dot(e, f) >> 2
-}
-
 // Eight readings and a doubled point: the sum of X_i·e_i.
 pub(crate) fn point_dot(x: &[i32], e: &[i16; 8]) -> i64
     requires { ⌜ Sized 8 (2 ^ 24) (now x) × Sized 8 (2 ^ 14 - 1) (now e) ⌝ }
@@ -54,8 +32,8 @@ fn points_dot(e: &[i16; 8], f: &[i16; 8]) -> i32
     t
 }
 
-// Their inner product.
-pub(crate) fn points_inner(e: &[i16; 8], f: &[i16; 8]) -> i64
+// Their inner product: a quarter of that sum, since both are held doubled.
+pub fn points_inner(e: &[i16; 8], f: &[i16; 8]) -> i64
     requires { ⌜ Sized 8 (2 ^ 14 - 1) (now e) × Sized 8 (2 ^ 14 - 1) (now f) ⌝ }
     ensures { λ r. ⌜ r ≡ inner (now (e .entry)) (now (f .entry)) ⌝ }
 {

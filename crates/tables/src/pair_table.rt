@@ -35,7 +35,7 @@ fn fill_row(t: &[i8], ds: &[u8], row: &mut [i8])
     let mut j: usize = 0;
     while j < row.len() {
         let f = lookup::table_point(t, &js);
-        row[j] = inner::inner(&e, &f) as i8;
+        row[j] = inner::points_inner(&e, &f) as i8;
         counting::count_up(&mut js, 2);
         j = j + 1;
     }

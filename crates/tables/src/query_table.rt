@@ -1,7 +1,7 @@
 // Filling the query table: the sums of X_i·e_i over every layer point, block after block (01, Scores).
 ghost use mathlib.Core.Path.{_≡_};
 ghost use mathlib.Core.List.{[], _∷_, _++_, map};
-ghost use Prim.Native.Nat.{_+_, _*_, _/_, _^_, _≤_, min};
+ghost use Prim.Native.Nat.{_+_, _*_, _/_, _^_, _≤_};
 ghost use lib.IntN.{pos, natAbs};
 ghost use lib.ListN.{length, drop};
 ghost use Rattle.integers.specs.Vectors.{Sized};
@@ -31,13 +31,6 @@ use scores::hours;
 
 // The greatest q that the table is for.
 const QUERY_MOST: usize = 4;
-
-// How many entries the next group has where so many are left: eight, or all of them.
-fn group_size(left: usize) -> usize
-    ensures { λ r. ⌜ r ≡ min 8 left ⌝ }
-{
-    if left < 8 { left } else { 8 }
-}
 
 // In each of k parts the n entries from the first on: the sums of the block's readings with the layer points l of these entries. All else stays as found.
 fn fill_group(
@@ -74,7 +67,7 @@ pub fn fill_blocks(x: &[i32], q: i64, k: usize, entries: &mut [i32])
     let mut ds: [u8; 8] = [0; 8];
     let mut i: usize = 0;
     while i < size {
-        let n = group_size(size - i);
+        let n = integers::smaller(8, size - i);
         let c = counting::counted(&mut ds, values, n);
         let l = columns::layer_points(&c, base);
         fill_group(&l, x, size, k, i, n, entries);

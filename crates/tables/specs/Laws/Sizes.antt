@@ -1,7 +1,7 @@
 -- How large the entries of the tables are: each coordinate of a layer point is at most 2 q, and nothing else is used.
 use mathlib.Core.Path.{sym, subst}
 use mathlib.Core.List.{List}
-use Prim.Native.Nat.{ℕ, _*_, _^_, _<_, _≤_}
+use Prim.Native.Nat.{ℕ, _*_, _-_, _^_, _<_, _≤_}
 use native.Mathlib.Omega.{arith}
 use lib.IntN.{ℤ, natAbs}
 use Rattle.integers.specs.Laws.Sums.{sized-more}
@@ -29,8 +29,8 @@ module _ (q : ℕ) (q> : 0 < q) (i : ℕ) where
   layerAt-sized = record { long = layerAt-in .long; small = layerPoint-small e8 nearest q q> (digitsOf q 8 i) (digitsOf-layer q q> 8 i) }
 
   -- as inner products are made
-  pub layerAt-small : q ≤ queryMost → Sized 8 (2 ^ 24) (layerAt q i)
-  layerAt-small h = sized-more 8 (2 * q) (layerAt q i) layerAt-sized (2 ^ 24) (omega arith)
+  pub layerAt-small : q ≤ queryMost → Sized 8 (2 ^ 14 - 1) (layerAt q i)
+  layerAt-small h = sized-more 8 (2 * q) (layerAt q i) layerAt-sized (2 ^ 14 - 1) (omega arith)
 
 -- layer points side by side, as sums with them are made
 pub points-small : (q : ℕ) → 0 < q → q ≤ queryMost → (c : List (List ℕ)) (r : List (List ℤ)) → LayerColumns q c → PointColumns q c r → SizedColumns 8 r

@@ -5,7 +5,7 @@ use Prim.Native.Nat.{_-_}
 use native.Mathlib.Omega.{arith}
 use lib.IntN.{ℤ, pos}
 use lib.ListN.{getD}
-use mir.Syntax.{w8, w64}
+use mir.Syntax.{w8, w16}
 use mir.Val.{SFits}
 use mir.Facts.{toZ-ofZ, sfits-widen}
 use Rattle.integers.specs.Laws.Loops.{Filled, filled-more, filled-all}
@@ -28,8 +28,8 @@ module _ (c : tie.After-r Inv-loop μ-loop) where
   fx : SFits w8 x
   fx = record { sfits = c .r .given }
 
-  fx64 : SFits w64 x
-  fx64 = sfits-widen tt fx
+  fx16 : SFits w16 x
+  fx16 = sfits-widen tt fx
 
 loop-holds : tie.Need-loop-holds Inv-loop μ-loop
 loop-holds c = record { within = omega arith; long = refl; same = refl }
@@ -38,7 +38,7 @@ shared-slice-copy-out-r : tie.Need-shared-slice-copy-out-r Inv-loop μ-loop
 shared-slice-copy-out-r c = omega arith
 
 cast-r : tie.Need-cast-r Inv-loop μ-loop
-cast-r c = simp (toZ-ofZ, fx c) (fx64 c)
+cast-r c = simp (toZ-ofZ, fx c) (fx16 c)
 
 mul-r : tie.Need-mul-r Inv-loop μ-loop
 mul-r c = omega arith
@@ -53,7 +53,7 @@ loop-less : tie.Need-loop-less Inv-loop μ-loop
 loop-less c = omega arith
 
 loop-again : tie.Need-loop-again Inv-loop μ-loop
-loop-again c = let b = l c in simp (toZ-ofZ, fx c, fx64 c) (filled-more (λ (z : ℤ). z) 8 (b .before .args .t .now) (b .before .pre) (pos 0) (x c) refl (c .before .loop-test .taken) (b .loop .inv))
+loop-again c = let b = l c in simp (toZ-ofZ, fx c, fx16 c) (filled-more (λ (z : ℤ). z) 8 (b .before .args .t .now) (b .before .pre) (pos 0) (x c) refl (c .before .loop-test .taken) (b .loop .inv))
 
 returns : tie.Need-returns Inv-loop μ-loop
 returns c = let b = c .before .before in filled-all (λ (z : ℤ). z) 8 (b .args .t .now) (b .pre) (omega arith) (c .before .loop .inv) ∙ map-id (b .args .t .now)

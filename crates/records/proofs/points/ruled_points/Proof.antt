@@ -64,21 +64,21 @@ module _ (l : tie.At-loop Inv-loop μ-loop) where
   size-is = l .before .block-size .ensures
 
 -- n blocks from i on
-module _ (c : tie.After-least Inv-loop μ-loop) where
+module _ (c : tie.After-smaller Inv-loop μ-loop) where
   abbrev l : tie.At-loop Inv-loop μ-loop
   l = c .before .before
 
   abbrev n : ℕ
-  n = c .least .result
+  n = c .smaller .result
 
   some : 0 < n
-  some = c .least .ensures .2 (omega arith) (omega (arith, c .before .loop-test .taken))
+  some = omega (arith, c .smaller .ensures, c .before .loop-test .taken)
 
   few : n ≤ 8
-  few = c .least .ensures .0
+  few = omega (arith, c .smaller .ensures)
 
   within : i l + n ≤ k l
-  within = omega (arith, c .least .ensures .1, c .before .loop-test .taken)
+  within = omega (arith, c .smaller .ensures, c .before .loop-test .taken)
 
   starts : size l * i l ≤ length (body l)
   starts = let h : blockSize (m l) * i l ≤ blockSize (m l) * k l = mul-le-mul (le-refl (blockSize (m l))) (l .loop .inv .0) in
@@ -92,7 +92,7 @@ module _ (c : tie.After-least Inv-loop μ-loop) where
 
 -- their points
 module _ (c : tie.After-eight-points Inv-loop μ-loop) where
-  abbrev b : tie.After-least Inv-loop μ-loop
+  abbrev b : tie.After-smaller Inv-loop μ-loop
   b = c .before .before
 
   points-are : BlockPoints (q (l b)) (m (l b)) (n b) (drop (blockSize (m (l b)) * i (l b)) (body (l b))) (c .eight-points .result)
@@ -121,11 +121,11 @@ block-size-requires c κs = omega (arith, c .before .pre .0 .few)
 loop-holds : tie.Need-loop-holds Inv-loop μ-loop
 loop-holds c = (omega arith, refl)
 
-sub-least : tie.Need-sub-least Inv-loop μ-loop
-sub-least c = omega arith
+sub-smaller : tie.Need-sub-smaller Inv-loop μ-loop
+sub-smaller c = omega arith
 
-least-requires : tie.Need-least-requires Inv-loop μ-loop
-least-requires c κs = tt
+smaller-requires : tie.Need-smaller-requires Inv-loop μ-loop
+smaller-requires c κs = tt
 
 mul-at : tie.Need-mul-at Inv-loop μ-loop
 mul-at c = omega (arith, starts c)
@@ -167,8 +167,8 @@ ruled-points-spec =
     μ-loop
     block-size-requires
     loop-holds
-    sub-least
-    least-requires
+    sub-smaller
+    smaller-requires
     mul-at
     sub-eight-points
     part-eight-points-start

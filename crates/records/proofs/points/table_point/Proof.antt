@@ -62,12 +62,12 @@ module _ (l : tie.In-loop Inv-loop μ-loop) where
   summable : Summable (pos 2) (layerPoint8 2 layer) above
   summable = record { first = layer-narrow (pos 2) m digital ds (s .pre .2) j within; second = above-narrow (pos 2) m digital ds (s .pre .2) j within }
 
-module _ (c : tie.After-table-layer Inv-loop μ-loop) where
+module _ (c : tie.After-table-point Inv-loop μ-loop) where
   abbrev l : tie.In-loop Inv-loop μ-loop
   l = c .before .before
 
-  layer-is : c .table-layer .result ≡ layerPoint8 2 (layer l)
-  layer-is = c .table-layer .ensures ∙ ap (λ (k : ℕ). layerPoint8 2 (take k (drop (8 * j l) (ds l)))) (eight l)
+  layer-is : c .table-point .result ≡ layerPoint8 2 (layer l)
+  layer-is = c .table-point .ensures ∙ ap (λ (k : ℕ). layerPoint8 2 (take k (drop (8 * j l) (ds l)))) (eight l)
 
 loop-holds : tie.Need-loop-holds Inv-loop μ-loop
 loop-holds c = let m = c .before .args .m in let e : 0 ≡ m - m = omega arith in (omega arith, ap (λ (k : ℕ). decode8 2 k (drop (8 * m) (c .before .args .ds .now))) e)
@@ -81,17 +81,17 @@ mul-at c = omega (arith, within c, s c .pre .2 .long)
 add-end : tie.Need-add-end Inv-loop μ-loop
 add-end c = omega (arith, within c, s c .pre .2 .long)
 
-sub-table-layer : tie.Need-sub-table-layer Inv-loop μ-loop
-sub-table-layer c = omega arith
+sub-table-point : tie.Need-sub-table-point Inv-loop μ-loop
+sub-table-point c = omega arith
 
-part-table-layer-start : tie.Need-part-table-layer-start Inv-loop μ-loop
-part-table-layer-start c = omega arith
+part-table-point-start : tie.Need-part-table-point-start Inv-loop μ-loop
+part-table-point-start c = omega arith
 
-part-table-layer-end : tie.Need-part-table-layer-end Inv-loop μ-loop
-part-table-layer-end c = omega (arith, within c, s c .pre .2 .long)
+part-table-point-end : tie.Need-part-table-point-end Inv-loop μ-loop
+part-table-point-end c = omega (arith, within c, s c .pre .2 .long)
 
-table-layer-requires : tie.Need-table-layer-requires Inv-loop μ-loop
-table-layer-requires c κs = let l = c .before in (s l .pre .0, subst (λ (k : ℕ). IsLayer 8 2 (take k (drop (8 * j l) (ds l)))) (sym (eight l)) (is-layer l))
+table-point-requires : tie.Need-table-point-requires Inv-loop μ-loop
+table-point-requires c κs = let l = c .before in (s l .pre .0, subst (λ (k : ℕ). IsLayer 8 2 (take k (drop (8 * j l) (ds l)))) (sym (eight l)) (is-layer l))
 
 plus-times-requires : tie.Need-plus-times-requires Inv-loop μ-loop
 plus-times-requires c κs = let p = c .before .before in subst₂ (Summable (pos 2)) (sym (layer-is p)) (sym (above-is (l p))) (summable (l p))
@@ -119,10 +119,10 @@ table-point-spec =
     sub-i
     mul-at
     add-end
-    sub-table-layer
-    part-table-layer-start
-    part-table-layer-end
-    table-layer-requires
+    sub-table-point
+    part-table-point-start
+    part-table-point-end
+    table-point-requires
     plus-times-requires
     loop-less
     loop-again

@@ -68,7 +68,7 @@ module _ (c : tie.After-table-point2 Inv-loop μ-loop) where
   point-is = c .table-point2 .ensures ∙ ap (layerPoint8 2) (l .loop .inv .2)
 
 -- its inner product with the row's
-module _ (c : tie.After-inner Inv-loop μ-loop) where
+module _ (c : tie.After-points-inner Inv-loop μ-loop) where
   abbrev p : tie.After-table-point2 Inv-loop μ-loop
   p = c .before .before .before
 
@@ -76,16 +76,16 @@ module _ (c : tie.After-inner Inv-loop μ-loop) where
   t = l p
 
   abbrev y : ℤ
-  y = c .inner .result
+  y = c .points-inner .result
 
   y-is : y ≡ inner (e t) (layerAt 2 (j t))
-  y-is = c .inner .ensures ∙ ap₂ inner (e-is t) (point-is p)
+  y-is = c .points-inner .ensures ∙ ap₂ inner (e-is t) (point-is p)
 
   y-small : natAbs y ≤ 32
   y-small = subst (λ (y : ℤ). natAbs y ≤ 32) (sym (y-is ∙ ap (λ (e : List ℤ). inner e (layerAt 2 (j t))) (e-at t))) (pairEntry-small (entryOf 2 (ds t)) (j t))
 
   y-wide : SFits w64 y
-  y-wide = record { sfits = c .inner .ok }
+  y-wide = record { sfits = c .points-inner .ok }
 
   y-fits : SFits w8 y
   y-fits = fits-mag w8 y (omega (arith, y-small))
@@ -110,10 +110,10 @@ slice-aggregate-table-point c = sym (is-layer (c .before .before) .long)
 table-point-requires-2 : tie.Need-table-point-requires-2 Inv-loop μ-loop
 table-point-requires-2 c κs = let t = c .before .before in (s t .pre .0, is-layer t)
 
-inner-requires : tie.Need-inner-requires Inv-loop μ-loop
-inner-requires c κs = let p = c .before .before in let t = l p in (
-  subst (Sized 8 (2 ^ 24)) (sym (e-is t ∙ e-at t)) (layerAt-small 2 two (entryOf 2 (ds t)) (omega arith)),
-  subst (Sized 8 (2 ^ 24)) (sym (point-is p)) (layerAt-small 2 two (j t) (omega arith)),
+points-inner-requires : tie.Need-points-inner-requires Inv-loop μ-loop
+points-inner-requires c κs = let p = c .before .before in let t = l p in (
+  subst (Sized 8 (2 ^ 14 - 1)) (sym (e-is t ∙ e-at t)) (layerAt-small 2 two (entryOf 2 (ds t)) (omega arith)),
+  subst (Sized 8 (2 ^ 14 - 1)) (sym (point-is p)) (layerAt-small 2 two (j t) (omega arith)),
 )
 
 cast-row : tie.Need-cast-row Inv-loop μ-loop
@@ -161,7 +161,7 @@ fill-row-spec =
     loop-holds
     slice-aggregate-table-point
     table-point-requires-2
-    inner-requires
+    points-inner-requires
     cast-row
     slice-set-from-row
     slice-aggregate-count-up

@@ -66,28 +66,28 @@ module _ (l : tie.At-loop Inv-loop μ-loop) where
   filled = simp (toZ-ofZ, s .fits .q) at (l .loop .inv .2)
 
 -- the entries of this group
-module _ (c : tie.After-group-size Inv-loop μ-loop) where
+module _ (c : tie.After-smaller Inv-loop μ-loop) where
   abbrev d : tie.In-loop Inv-loop μ-loop
   d = c .before
 
   abbrev n : ℕ
-  n = c .group-size .result
+  n = c .smaller .result
 
   less : i (d .before) < partSize (q (d .before))
   less = omega (arith, d .loop-test .taken, size-is (d .before))
 
   n-most : n ≤ 8
-  n-most = omega (arith, c .group-size .ensures)
+  n-most = omega (arith, c .smaller .ensures)
 
   n-some : 0 < n
-  n-some = omega (arith, c .group-size .ensures, d .loop-test .taken)
+  n-some = omega (arith, c .smaller .ensures, d .loop-test .taken)
 
   n-ends : i (d .before) + n ≤ partSize (q (d .before))
-  n-ends = omega (arith, c .group-size .ensures, d .loop-test .taken, size-is (d .before))
+  n-ends = omega (arith, c .smaller .ensures, d .loop-test .taken, size-is (d .before))
 
 -- their digits
 module _ (c : tie.After-counted Inv-loop μ-loop) where
-  abbrev a : tie.After-group-size Inv-loop μ-loop
+  abbrev a : tie.After-smaller Inv-loop μ-loop
   a = c .before .before
 
   abbrev l : tie.At-loop Inv-loop μ-loop
@@ -141,11 +141,11 @@ cast-base c = simp (toZ-ofZ, c .before .fits .q) (base-fits (c .before))
 loop-holds : tie.Need-loop-holds Inv-loop μ-loop
 loop-holds c = let s = c .before in (omega arith, sym (digits-zero _ 8), filled-none _ (s .args .k) (s .args .x .now) (s .args .entries .now))
 
-sub-group-size : tie.Need-sub-group-size Inv-loop μ-loop
-sub-group-size c = omega (arith, c .loop-test .taken)
+sub-smaller : tie.Need-sub-smaller Inv-loop μ-loop
+sub-smaller c = omega (arith, c .loop-test .taken)
 
-group-size-requires : tie.Need-group-size-requires Inv-loop μ-loop
-group-size-requires c κs = tt
+smaller-requires : tie.Need-smaller-requires Inv-loop μ-loop
+smaller-requires c κs = tt
 
 counted-requires : tie.Need-counted-requires Inv-loop μ-loop
 counted-requires c κs = let a = c .before in let l = d a .before in simp (toZ-ofZ, s l .fits .q) (subst (IsLayer 8 (q l)) (sym (ds-is l)) (digitsOf-layer (q l) (q> l) 8 (i l)), n-most a)
@@ -170,7 +170,7 @@ module _ (c : tie.After-fill-group Inv-loop μ-loop) where
   abbrev p : tie.After-layer-points Inv-loop μ-loop
   p = c .before .before .before
 
-  abbrev g : tie.After-group-size Inv-loop μ-loop
+  abbrev g : tie.After-smaller Inv-loop μ-loop
   g = a (e p)
 
   abbrev t : tie.At-loop Inv-loop μ-loop
@@ -209,8 +209,8 @@ fill-blocks-spec =
     cast-values
     cast-base
     loop-holds
-    sub-group-size
-    group-size-requires
+    sub-smaller
+    smaller-requires
     counted-requires
     layer-points-requires
     fill-group-requires
