@@ -8,7 +8,7 @@ use lib.ListN.{length, getD, drop}
 use lib.Seq.{take-all}
 use Rattle.integers.specs.Floor.{floorDiv}
 use Rattle.integers.specs.Laws.Sizes.{abs-mul-le}
-use Rattle.integers.specs.Laws.Sums.{dot-bound, sized-more}
+use Rattle.integers.specs.Laws.Sums.{dot-bound}
 use Rattle.integers.specs.Vectors.{dot, Sized}
 use Rattle.lattice.specs.Doubled.{E8}
 use Rattle.layers.specs.Laws.Bases.{base-two}
@@ -69,11 +69,7 @@ module _ (q : ℤ) (m : ℕ) where
       pub point-sized : Sized 8 (2 * W) e
       point-sized = record { long = point-in .long; small = decode-small8 (natAbs q) m (coder-positive q m steps c) (drop 1 b) (h .code) }
 
-      -- so one that the code takes
-      pub point-small : Sized 8 (2 ^ 24) e
-      point-small = sized-more 8 (2 * W) e point-sized (2 ^ 24) (omega (arith, width-most))
-
-      -- and is scored in narrow numbers
+      -- it is scored in narrow numbers
       pub block-scored : Scored steps b e
       block-scored = record { listed = c .listed; some = omega (arith, h .long); first = h .first; narrow = point-narrow q m (coder-digital q m steps c) b (h .code) }
 
