@@ -13,7 +13,6 @@ use readings::words;
 use records::asked;
 use records::codes;
 use records::frames;
-use records::points;
 use refusals::Answer;
 use refusals::Refusal;
 use refusals::Verdict;

@@ -12,4 +12,3 @@ pub mod Loops
 pub mod Bases
 pub mod E8
 pub mod Table
-pub mod Asked

@@ -6,5 +6,4 @@ pub mod Sums
 pub mod Sizes
 pub mod E8
 pub mod Table
-pub mod Answers
 pub mod Laws

@@ -7,7 +7,7 @@ use lib.Dec.{ltb}
 use lib.IntN.{ℤ, natAbs}
 use lib.ListN.{length, getD, take, drop}
 use Rattle.integers.specs.Vectors.{«at»}
-use Rattle.layers.specs.Answers.{checkBelow}
+use Rattle.coding.specs.Answers.{checkBelow}
 use Rattle.layers.specs.Digits.{IsCode, cut}
 use Rattle.layers.specs.E8.{decode8}
 use Rattle.layers.specs.Sizes.{Base}

@@ -6,6 +6,3 @@ pub mod Hours
 pub mod Codes
 pub mod Least
 pub mod Asked
-pub mod Points
-pub mod Lanes
-pub mod LanePoints

@@ -2,5 +2,4 @@
 pub mod Frames
 pub mod Vectors
 pub mod Codes
-pub mod Lanes
 pub mod Laws

@@ -4,7 +4,7 @@ ghost use Prim.Native.Nat.{_+_, _*_, _^_, _<_, _≤_};
 ghost use lib.ListN.{length, getD};
 ghost use Rattle.layers.specs.Digits.{cut};
 ghost use Rattle.records.specs.Codes.{blockSize, blocksIn, stepOf, checkBlock, checkBlocks};
-use layers::asked;
+use coding::asked;
 use readings::words;
 use refusals::Refusal;
 use refusals::Verdict;

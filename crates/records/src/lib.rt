@@ -2,5 +2,4 @@
 pub mod asked;
 pub mod codes;
 pub mod frames;
-pub mod points;
 pub mod vectors;

@@ -11,7 +11,6 @@ use crate::codes;
 use crate::inner;
 use layers::table;
 use records::asked;
-use records::points;
 use refusals::Answer;
 use refusals::Verdict;
 use refusals::settings;

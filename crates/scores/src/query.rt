@@ -16,7 +16,6 @@ use crate::inner;
 use layers::table;
 use readings::words;
 use records::codes;
-use records::points;
 use refusals::Answer;
 use refusals::Verdict;
 use refusals::settings;

@@ -8,7 +8,7 @@ use Rattle.refusals.specs.declared.settings.Settings.{Settings}
 use Rattle.refusals.specs.declared.Verdict.{Verdict}
 use Rattle.refusals.specs.Verdicts.{numberOf, placeOf}
 use Rattle.lattice.specs.Answers.{nearest}
-use Rattle.layers.specs.Answers.{decoded}
+use Rattle.coding.specs.Answers.{decoded}
 use Rattle.records.specs.Vectors.{unitsHour}
 use Rattle.encoding.specs.Encode.{encoded, encodedRoom}
 use Rattle.scores.specs.Scores.{pairScore}

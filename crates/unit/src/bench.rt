@@ -3,7 +3,7 @@ ghost use mathlib.Core.Path.{_≡_};
 ghost use lib.ListN.{length};
 ghost use Rattle.readings.specs.Taking.{takeBits, takeUnits};
 ghost use Rattle.lattice.specs.Answers.{nearest};
-ghost use Rattle.layers.specs.Answers.{coded, digitRoom, decoded};
+ghost use Rattle.coding.specs.Answers.{coded, digitRoom, decoded};
 ghost use Rattle.reports.specs.Report.{report};
 ghost use Rattle.unit.specs.Answers.{settings, takenOut, pointOut, reportOut};
 use crate::answers;
@@ -42,7 +42,7 @@ pub extern "C" fn ek_digits_of_point(s: EkSettings, e: &[i32], out: &mut [u8]) -
     ensures answer { λ r. ⌜ r ≡ pointOut (coded (settings s) (now (e .entry)) (length (now (out .entry)))) ⌝ }
     ensures room { λ _. ⌜ now (out .exit) ≡ digitRoom (settings s) (now (e .entry)) (now (out .entry)) ⌝ }
 {
-    answers::point_out(layers::digits_of_point(answers::settings_in(s), e, out))
+    answers::point_out(coding::digits_of_point(answers::settings_in(s), e, out))
 }
 
 // The doubled point of digits.
@@ -50,7 +50,7 @@ pub extern "C" fn ek_digits_of_point(s: EkSettings, e: &[i32], out: &mut [u8]) -
 pub extern "C" fn ek_point_of_digits(s: EkSettings, digits: &[u8]) -> EkPoint
     ensures { λ r. ⌜ r ≡ pointOut (decoded (settings s) (now (digits .entry))) ⌝ }
 {
-    answers::point_out(layers::point_of_digits(answers::settings_in(s), digits))
+    answers::point_out(coding::point_of_digits(answers::settings_in(s), digits))
 }
 
 // The report on a block of eight readings in whole units.

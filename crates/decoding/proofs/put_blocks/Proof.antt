@@ -16,7 +16,7 @@ use Rattle.records.specs.Codes.{blockSize, stepOf, wholePoint}
 use Rattle.decoding.specs.Decode.{Readable, readingBytes, decodedBytes}
 use Rattle.decoding.specs.Laws.Decode.{block-readable}
 use Rattle.records.specs.Laws.Parts.{part-ends, cut-more, joined-more, front-long}
-use Rattle.records.specs.Laws.Points.{coder-digital, blocks-codes, row-at}
+use Rattle.points.specs.Laws.Points.{coder-digital, blocks-codes, row-at}
 use Rattle.decoding.proofs.put_blocks.Statement.{statement}
 use Rattle.decoding.proofs.put_blocks.Tie as tie
 

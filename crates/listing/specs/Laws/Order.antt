@@ -14,7 +14,7 @@ use Rattle.blocks.specs.Laws.Theorems.{block-digits, block-long8}
 use Rattle.blocks.specs.Trials.{firstFitting, blockCode}
 use Rattle.layers.specs.Digits.{cut}
 use Rattle.layers.specs.E8.{e8, nearest}
-use Rattle.layers.specs.Laws.Asked.{checked-allowed}
+use Rattle.coding.specs.Laws.Asked.{checked-allowed}
 use Rattle.readings.specs.declared.Measured.{Measured}
 use Rattle.readings.specs.declared.Measured.the-variants as measured
 use Rattle.readings.specs.Taking.{measureUnits}

@@ -22,9 +22,9 @@ use Rattle.refusals.specs.Steps.{checkSteps}
 use Rattle.refusals.specs.Verdicts.{firstRefusal}
 use Rattle.blocks.specs.Laws.Sizes.{divisor-positive}
 use Rattle.blocks.specs.Limits.{UsedSteps}
-use Rattle.layers.specs.Answers.{checkBelow}
+use Rattle.coding.specs.Answers.{checkBelow}
 use Rattle.layers.specs.Digits.{Below, cut}
-use Rattle.layers.specs.Laws.Asked.{checked-allowed, allowed-base, below-taken, below-accepted}
+use Rattle.coding.specs.Laws.Asked.{checked-allowed, allowed-base, below-taken, below-accepted}
 use Rattle.layers.specs.Laws.Bases.{base-two}
 use Rattle.records.specs.Codes.{Coder, IsBlock, AreBlocks, blockSize, blocksIn, codeBlocks, checkFrame, checkBlock, checkBlocks}
 use Rattle.records.specs.Laws.Codes.{block-opened}

@@ -6,7 +6,7 @@ use Prim.Native.Nat.{ℕ, suc, _+_, _*_, _-_, _<_, _≤_}
 use native.Mathlib.Omega.{arith}
 use lib.Dec.{ltb}
 use lib.ListN.{length, getD, take, drop}
-use Rattle.layers.specs.Answers.{checkBelow}
+use Rattle.coding.specs.Answers.{checkBelow}
 use Rattle.layers.specs.Digits.{cut}
 use Rattle.refusals.specs.declared.Refusal.the-variants.{Byte}
 use Rattle.refusals.specs.declared.Verdict.the-variants.{Refused}

@@ -16,7 +16,7 @@ use Rattle.refusals.specs.declared.Verdict.{Verdict}
 use Rattle.refusals.specs.declared.Verdict.the-variants.{Accepted, Refused}
 use Rattle.refusals.specs.Laws.Verdicts.{refused-never}
 use Rattle.refusals.specs.Verdicts.{firstRefusal}
-use Rattle.layers.specs.Answers.{checkBelow}
+use Rattle.coding.specs.Answers.{checkBelow}
 use Rattle.layers.specs.Digits.{cut}
 use Rattle.records.specs.Codes.{checkBlock, checkBlocks}
 

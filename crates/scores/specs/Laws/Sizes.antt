@@ -17,7 +17,7 @@ use Rattle.layers.specs.Laws.Widths.{width-less}
 use Rattle.layers.specs.Sizes.{width}
 use Rattle.records.specs.Codes.{Coder, IsBlock, stepOf, wholePoint}
 use Rattle.records.specs.Laws.Asked.{coder-positive}
-use Rattle.records.specs.Laws.Points.{coder-digital, point-narrow}
+use Rattle.points.specs.Laws.Points.{coder-digital, point-narrow}
 use Rattle.refusals.specs.Limits.{stepMost}
 use Rattle.scores.specs.Laws.Inner.{inner-size}
 use Rattle.scores.specs.Scores.{Scored, inner, blockPair, blockQuery}

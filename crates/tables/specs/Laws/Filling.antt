@@ -5,7 +5,7 @@ use Prim.Native.Nat.{ℕ, _*_, _/_, _≤_}
 use borrow.Author.Tests.{leb-true}
 use lib.IntN.{ℤ, pos, natAbs}
 use lib.ListN.{length}
-use Rattle.layers.specs.Laws.Asked.{checked-allowed}
+use Rattle.coding.specs.Laws.Asked.{checked-allowed}
 use Rattle.records.specs.Frames.{wholeBlocks}
 use Rattle.records.specs.Laws.Frames.{Framed, record-framed}
 use Rattle.records.specs.Laws.Hours.{Sound, units-small, taken-all}

@@ -6,7 +6,7 @@ use Rattle.refusals.specs.Steps.{goodSteps}
 use Rattle.readings.specs.Taking.{measureUnits}
 use Rattle.lattice.specs.Answers.{checkNearest, nearest}
 use Rattle.lattice.specs.Computed.{lesser, pick, grow, both, nearestD, nearestHalf, nearestPoint}
-use Rattle.layers.specs.Answers.{checkDigits, decoded}
+use Rattle.coding.specs.Answers.{checkDigits, decoded}
 use Rattle.layers.specs.Layers.{layerDigits, digitPoint, layerPoint}
 use Rattle.records.specs.Frames.{wholeBlocks, goodRecord}
 use Rattle.encoding.specs.Encode.{encodeAsked, checkEncode, encoded, encodedRoom}

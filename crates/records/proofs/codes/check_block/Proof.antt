@@ -12,7 +12,7 @@ use lib.ListN.{getD, drop}
 use Rattle.integers.specs.Laws.Loops.{rest-whole}
 use Rattle.refusals.specs.declared.Refusal.the-variants.{Byte}
 use Rattle.refusals.specs.declared.Verdict.the-variants.{Refused}
-use Rattle.layers.specs.Answers.{checkBelow}
+use Rattle.coding.specs.Answers.{checkBelow}
 use Rattle.records.specs.Codes.{checkBlock}
 use Rattle.records.specs.Laws.Codes.{block-opened}
 use Rattle.records.proofs.codes.check_block.Statement.{statement}

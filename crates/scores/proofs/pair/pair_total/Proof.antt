@@ -12,7 +12,7 @@ use Rattle.integers.specs.Laws.Sizes.{fits-abs}
 use Rattle.layers.specs.Digits.{cut}
 use Rattle.records.specs.Codes.{blockSize, stepOf, wholePoint}
 use Rattle.records.specs.Laws.Parts.{part-ends}
-use Rattle.records.specs.Laws.Points.{coder-digital, blocks-codes, row-at}
+use Rattle.points.specs.Laws.Points.{coder-digital, blocks-codes, row-at}
 use Rattle.scores.specs.Laws.Sizes.{block-scored, blockPair-most}
 use Rattle.scores.specs.Laws.Totals.{parts-more, parts-small}
 use Rattle.scores.specs.Scores.{Scored, total, inner, blockPair}

@@ -14,7 +14,7 @@ use Rattle.integers.specs.Vectors.{dot, Sized}
 use Rattle.layers.specs.Digits.{cut}
 use Rattle.records.specs.Codes.{blockSize, stepOf, wholePoint}
 use Rattle.records.specs.Laws.Parts.{part-ends}
-use Rattle.records.specs.Laws.Points.{coder-digital, blocks-codes, row-at, rows-long}
+use Rattle.points.specs.Laws.Points.{coder-digital, blocks-codes, row-at, rows-long}
 use Rattle.scores.specs.Laws.Sizes.{block-scored, blockQuery-most}
 use Rattle.scores.specs.Laws.Totals.{parts-more, parts-small}
 use Rattle.scores.specs.Scores.{Scored, total, blockQuery}

@@ -1,6 +1,6 @@
 -- `check_pair_table` is the settings' check, then those of the table.
 use mathlib.Core.Path.{sym, _∙_}
-use Rattle.layers.specs.Laws.Asked.{checked-allowed}
+use Rattle.coding.specs.Laws.Asked.{checked-allowed}
 use Rattle.tables.specs.Laws.Filling.{pair-table-is}
 use Rattle.tables.proofs.pair_table.check_pair_table.Statement.{statement}
 use Rattle.tables.proofs.pair_table.check_pair_table.Tie as tie

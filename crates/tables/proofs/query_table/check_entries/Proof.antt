@@ -9,7 +9,7 @@ use lib.IntN.{ℤ, natAbs}
 use mir.Syntax.{w64}
 use mir.Val.{SFits}
 use mir.Facts.{toZ-ofZ}
-use Rattle.layers.specs.Laws.Asked.{allowed-base}
+use Rattle.coding.specs.Laws.Asked.{allowed-base}
 use Rattle.layers.specs.Sizes.{Base}
 use Rattle.refusals.specs.declared.Refusal.the-variants.{Size}
 use Rattle.refusals.specs.Verdicts.{unless}

@@ -1,7 +1,7 @@
 -- `check_q` is the settings' check, then that of q.
 use mathlib.Core.Path.{_≡_, sym, _∙_, ap}
 use mathlib.Core.List.{[], _∷_}
-use Rattle.layers.specs.Laws.Asked.{checked-allowed}
+use Rattle.coding.specs.Laws.Asked.{checked-allowed}
 use Rattle.refusals.specs.declared.Verdict.{Verdict}
 use Rattle.refusals.specs.Laws.Verdicts.{first-last}
 use Rattle.refusals.specs.Settings.{checkSettings}

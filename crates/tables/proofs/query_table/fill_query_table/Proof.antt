@@ -10,7 +10,7 @@ use lib.Seq.{take-at}
 use mir.Syntax.{w64}
 use mir.Val.{SFits, toZ, ofZ}
 use mir.Facts.{toZ-ofZ}
-use Rattle.layers.specs.Laws.Asked.{allowed-base}
+use Rattle.coding.specs.Laws.Asked.{allowed-base}
 use Rattle.layers.specs.Sizes.{Base}
 use Rattle.records.specs.Laws.Frames.{Framed}
 use Rattle.records.specs.Laws.Hours.{fvecs-sound, fvecs-count}

@@ -7,7 +7,7 @@ use lib.ListN.{length, length-map}
 use mir.Syntax.{w64}
 use mir.Val.{SFits, toZ, ofZ}
 use mir.Facts.{toZ-ofZ}
-use Rattle.layers.specs.Laws.Asked.{allowed-base}
+use Rattle.coding.specs.Laws.Asked.{allowed-base}
 use Rattle.layers.specs.Sizes.{Base}
 use Rattle.readings.specs.Taking.{measureUnits}
 use Rattle.records.specs.Laws.Hours.{units-sound, units-taken}

@@ -3,7 +3,7 @@ use mathlib.Core.Path.{_∙_, ap}
 use borrow.Author.Needs.{needs}
 use Rattle.refusals.specs.declared.settings.Settings.{Settings}
 use lib.ListN.{length}
-use Rattle.layers.specs.Answers.{coded, digitRoom}
+use Rattle.coding.specs.Answers.{coded, digitRoom}
 use Rattle.unit.specs.Answers.{pointOut}
 use Rattle.unit.proofs.bench.ek_digits_of_point.Statement.{statement}
 use Rattle.unit.proofs.bench.ek_digits_of_point.Tie as tie

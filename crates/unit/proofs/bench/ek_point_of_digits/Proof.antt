@@ -2,7 +2,7 @@
 use mathlib.Core.Path.{_∙_, ap}
 use borrow.Author.Needs.{needs}
 use Rattle.refusals.specs.declared.settings.Settings.{Settings}
-use Rattle.layers.specs.Answers.{decoded}
+use Rattle.coding.specs.Answers.{decoded}
 use Rattle.unit.specs.Answers.{pointOut}
 use Rattle.unit.proofs.bench.ek_point_of_digits.Statement.{statement}
 use Rattle.unit.proofs.bench.ek_point_of_digits.Tie as tie

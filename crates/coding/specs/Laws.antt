@@ -1,0 +1,2 @@
+-- Proved facts of what is asked for.
+pub mod Asked
