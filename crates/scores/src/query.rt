@@ -1,12 +1,13 @@
 // The query score: whole readings against one code record, in halves of 1/1024 squared (01, Scores).
 ghost use mathlib.Core.Path.{_≡_};
+ghost use mathlib.Core.List.{_++_, map};
 ghost use Prim.Native.Nat.{_*_, _/_, _^_, _≤_};
 ghost use lib.IntN.{natAbs, _*ℤ_};
-ghost use lib.ListN.{length};
+ghost use lib.ListN.{length, drop};
 ghost use Rattle.integers.specs.Vectors.{dot, Sized};
 ghost use Rattle.layers.specs.Digits.{cut};
 ghost use Rattle.layers.specs.Table.{TableFor};
-ghost use Rattle.records.specs.Codes.{Coder, AreBlocks, blockSize, stepOf};
+ghost use Rattle.records.specs.Codes.{Coder, AreBlocks, blockSize, stepOf, wholePoint};
 ghost use Rattle.records.specs.Laws.Asked.{CoderTaken};
 ghost use Rattle.records.specs.Vectors.{unitsHour, fvecsHour, UnitsTaken};
 ghost use Rattle.refusals.specs.Answers.{valued};
@@ -29,7 +30,7 @@ fn block_query(steps: &[i32], x: &[i32], b: &[u8], e: &[i16; 8]) -> i64
     codes::step_of(steps, b) * inner::point_dot(x, e)
 }
 
-// The sum over k blocks of readings and as many coded ones. Their points are made in the lent rows, whatever these hold.
+// The sum over k blocks of readings and as many coded ones. Their points are made in the first k of the lent rows; the other rows stay as found.
 pub fn query_total(
     t: &[i8],
     steps: &[i32],
@@ -42,7 +43,7 @@ pub fn query_total(
 ) -> i64
     requires { ⌜ TableFor (natAbs q) (now t) × Coder q m (now steps) × Sized (8 * k) (2 ^ 24) (now x) × AreBlocks (length (now steps)) (natAbs q) m k (now body) × (k ≤ 64) × (length (now rows) ≡ 64) ⌝ }
     ensures answer { λ r. ⌜ r ≡ total (blockQuery (natAbs q) m (now (steps .entry))) (cut 8 k (now (x .entry))) (cut (blockSize m) k (now (body .entry))) ⌝ }
-    ensures room { λ _. ⌜ length (now (rows .exit)) ≡ 64 ⌝ }
+    ensures room { λ _. ⌜ now (rows .exit) ≡ map (wholePoint (natAbs q) m) (cut (blockSize m) k (now (body .entry))) ++ drop k (now (rows .entry)) ⌝ }
 {
     points::whole_points(t, body, q, m, k, rows);
     let n = codes::block_size(m);

@@ -14,7 +14,7 @@ use Rattle.integers.specs.Vectors.{dot, Sized}
 use Rattle.layers.specs.Digits.{cut}
 use Rattle.records.specs.Codes.{blockSize, stepOf, wholePoint}
 use Rattle.records.specs.Laws.Parts.{part-ends}
-use Rattle.points.specs.Laws.Points.{coder-digital, blocks-codes, row-at, rows-long}
+use Rattle.points.specs.Laws.Points.{coder-digital, blocks-codes, row-at}
 use Rattle.scores.specs.Laws.Sizes.{block-scored, blockQuery-most}
 use Rattle.scores.specs.Laws.Totals.{parts-more, parts-small}
 use Rattle.scores.specs.Scores.{Scored, total, blockQuery}
@@ -74,9 +74,6 @@ module _ (l : tie.At-loop Inv-loop μ-loop) where
 
   rows-are : rows ≡ map point (cut (blockSize m) k body) ++ drop k (s .args .rows .now)
   rows-are = simp (toZ-ofZ, s .fits .q) at (l .before .before .whole-points .ensures)
-
-  rows-room : length rows ≡ 64
-  rows-room = ap length rows-are ∙ rows-long point (blockSize m) body (s .args .rows .now) k (omega (arith, s .pre .4, s .pre .5)) ∙ s .pre .5
 
   abbrev part : ℕ → List ℤ
   part j = take 8 (drop (8 * j) X)
@@ -216,7 +213,7 @@ loop-again : tie.Need-loop-again Inv-loop μ-loop
 loop-again c = (omega arith, simp (toZ-ofZ, s (t c) .fits .q, y-fits c, sum-is (t c), more-fits c) (more-is c))
 
 returns : tie.Need-returns Inv-loop μ-loop
-returns c = let l = c .before in let n : i l ≡ k l = omega arith in (sum-is l ∙ ap (sum l) n, rows-room l)
+returns c = let l = c .before in let n : i l ≡ k l = omega arith in (sum-is l ∙ ap (sum l) n, rows-are l)
 
 pub query-total-spec : {M : Type 1} → statement M
 query-total-spec =

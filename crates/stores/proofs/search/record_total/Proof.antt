@@ -11,7 +11,8 @@ use mir.Val.{SFits}
 use mir.Facts.{toZ-ofZ}
 use Rattle.integers.specs.Laws.Loops.{rest-whole}
 use Rattle.layers.specs.Digits.{cut}
-use Rattle.records.specs.Codes.{AreBlocks, blockSize, blocksIn}
+use Rattle.points.specs.Laws.Points.{rows-long}
+use Rattle.records.specs.Codes.{AreBlocks, blockSize, blocksIn, wholePoint}
 use Rattle.scores.specs.Laws.Asked.{taken-block, exact-blocks}
 use Rattle.scores.specs.Scores.{total, blockQuery, queryTotal}
 use Rattle.tables.specs.Laws.Entries.{queryTable-long}
@@ -101,7 +102,7 @@ returns c = let s = c .before .before .before .before .before in let f : SFits w
   toZ-ofZ f ∙ (simp (toZ-ofZ, s .fits .q) at (c .query-total .ensures .0))
       ∙ ap₂ (λ (n : ℕ) (f : List ℕ). total (blockQuery (q s) (m s) (steps s)) (cut 8 (k s) (X s)) (cut (blockSize (m s)) n f)) (sym (count s)) (rest-whole 4 (code s))
       ∙ ap (λ (n : ℕ). total (blockQuery (q s) (m s) (steps s)) (cut 8 n (X s)) (cut (blockSize (m s)) (blocksIn (m s) (code s)) (drop 4 (code s)))) (sym (count-x s)),
-  c .query-total .ensures .1,
+  ap length (simp (toZ-ofZ, s .fits .q) at (c .query-total .ensures .1)) ∙ rows-long (wholePoint (q s) (m s)) (blockSize (m s)) (lent s) (s .args .rows .now) (k s) (omega (arith, s .pre .5, s .pre .6)) ∙ s .pre .6,
 )
 
 returns-2 : tie.Need-returns-2
