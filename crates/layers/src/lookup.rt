@@ -33,11 +33,22 @@ fn half_number(ds: &[u8], at: usize, q: usize) -> usize
     four(ds, at) * powers(q) / 16777216 % 256
 }
 
+// The entry number of eight digits below 2 by one product: the second four join the first, each 16 times, and still nothing is carried.
+fn number_of_two(ds: &[u8]) -> usize
+    requires { ⌜ IsLayer 8 2 (now ds) ⌝ }
+    ensures { λ r. ⌜ r ≡ entryOf 2 (now (ds .entry)) ⌝ }
+{
+    (four(ds, 0) + 16 * four(ds, 4)) * powers(2) / 16777216 % 256
+}
+
 // The entry number of a layer's digits, the first digit least.
 pub fn entry_number(ds: &[u8], q: usize) -> usize
     requires { ⌜ IsLayer 8 q (now ds) × (q ≤ 4) ⌝ }
     ensures { λ r. ⌜ r ≡ entryOf q (now (ds .entry)) ⌝ }
 {
+    if q == 2 {
+        return number_of_two(ds);
+    }
     half_number(ds, 0, q) + q * q * q * q * half_number(ds, 4, q)
 }
 

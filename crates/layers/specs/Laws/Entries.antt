@@ -57,20 +57,27 @@ module _ (q : ℕ) (h : q ≤ 4) where
   pub powers-small : powers q < 2 ^ 25
   powers-small = omega (arith, squared, cubed)
 
--- two words of four bytes each: below the fourth byte of their product nothing is carried
+-- two words of four bytes each: where below the fourth byte of their product nothing is carried, that byte has the number
+module _ (q a b c d : ℕ) where
+  abbrev number : ℕ
+  number = entryOf q (a ∷ b ∷ c ∷ d ∷ [])
+
+  abbrev low : ℕ
+  low = 65536 * (a * q + b * (q * q) + c * (q * q * q)) + 256 * (a * (q * q) + b * (q * q * q)) + a * (q * q * q)
+
+  fourth-byte : low < 16777216 → number < 256 → entryOf 256 (a ∷ b ∷ c ∷ d ∷ []) * powers q / 16777216 % 256 ≡ number
+  fourth-byte low-less less =
+      let high : ℕ = b + c * q + d * (q * q) + 256 * (c + d * q) + 65536 * d in
+      let whole : entryOf 256 (a ∷ b ∷ c ∷ d ∷ []) * powers q ≡ low + 16777216 * (number + 256 * high) = omega arith in
+      ap (λ (n : ℕ). n / 16777216 % 256) whole
+      ∙ ap (λ (n : ℕ). n % 256) (add-mul-div-left low (number + 256 * high) (omega arith) ∙ ap (λ (t : ℕ). t + (number + 256 * high)) (div-eq-of-lt low-less) ∙ omega arith)
+      ∙ add-mul-mod-self-left number 256 high ∙ mod-eq-of-lt less
+
 gather : (q a b c d : ℕ) → q ≤ 4 → a < q → b < q → c < q → d < q → entryOf 256 (a ∷ b ∷ c ∷ d ∷ []) * powers q / 16777216 % 256 ≡ entryOf q (a ∷ b ∷ c ∷ d ∷ [])
 gather q a b c d h ha hb hc hd =
-    let e : ℕ = entryOf q (a ∷ b ∷ c ∷ d ∷ []) in
-    let low : ℕ = 65536 * (a * q + b * (q * q) + c * (q * q * q)) + 256 * (a * (q * q) + b * (q * q * q)) + a * (q * q * q) in
-    let high : ℕ = b + c * q + d * (q * q) + 256 * (c + d * q) + 65536 * d in
     let two : q * q ≤ 16 = squared q h in let three : q * q * q ≤ 64 = cubed q h in
     let a3 : a ≤ 3 = omega arith in let b3 : b ≤ 3 = omega arith in let c3 : c ≤ 3 = omega arith in let d3 : d ≤ 3 = omega arith in
-    let low-less : low < 16777216 = omega (arith, mul-le-mul a3 h, mul-le-mul b3 two, mul-le-mul c3 three, mul-le-mul a3 two, mul-le-mul b3 three, mul-le-mul a3 three) in
-    let e-less : e < 256 = omega (arith, mul-le-mul b3 h, mul-le-mul c3 two, mul-le-mul d3 three) in
-    let whole : entryOf 256 (a ∷ b ∷ c ∷ d ∷ []) * powers q ≡ low + 16777216 * (e + 256 * high) = omega arith in
-    ap (λ (n : ℕ). n / 16777216 % 256) whole
-    ∙ ap (λ (n : ℕ). n % 256) (add-mul-div-left low (e + 256 * high) (omega arith) ∙ ap (λ (t : ℕ). t + (e + 256 * high)) (div-eq-of-lt low-less) ∙ omega arith)
-    ∙ add-mul-mod-self-left e 256 high ∙ mod-eq-of-lt e-less
+    fourth-byte q a b c d (omega (arith, mul-le-mul a3 h, mul-le-mul b3 two, mul-le-mul c3 three, mul-le-mul a3 two, mul-le-mul b3 three, mul-le-mul a3 three)) (omega (arith, mul-le-mul b3 h, mul-le-mul c3 two, mul-le-mul d3 three))
 
 pub gathered : (q : ℕ) (l : List ℕ) → length l ≡ 4 → q ≤ 4 → Below q l → entryOf 256 l * powers q / 16777216 % 256 ≡ entryOf q l
 gathered q (a ∷ b ∷ c ∷ d ∷ []) e h k = gather q a b c d h (k .0) (k .1 .0) (k .1 .1 .0) (k .1 .1 .1 .0)
@@ -79,6 +86,26 @@ gathered q (a ∷ []) e h k = absurd (omega arith)
 gathered q (a ∷ b ∷ []) e h k = absurd (omega arith)
 gathered q (a ∷ b ∷ c ∷ []) e h k = absurd (omega arith)
 gathered q (a ∷ b ∷ c ∷ d ∷ f ∷ l) e h k = absurd (omega arith)
+
+-- eight digits below 2 by one product: the second four join the first, each 16 times
+pub gathered-two : (l r : List ℕ) → length l ≡ 4 → length r ≡ 4 → Below 2 l → Below 2 r → (entryOf 256 l + 16 * entryOf 256 r) * powers 2 / 16777216 % 256 ≡ entryOf 2 l + 16 * entryOf 2 r
+gathered-two (a ∷ b ∷ c ∷ d ∷ []) r e h k m = second r h m
+  where
+    second : (r : List ℕ) → length r ≡ 4 → Below 2 r → (entryOf 256 (a ∷ b ∷ c ∷ d ∷ []) + 16 * entryOf 256 r) * powers 2 / 16777216 % 256 ≡ entryOf 2 (a ∷ b ∷ c ∷ d ∷ []) + 16 * entryOf 2 r
+    second (x ∷ y ∷ z ∷ w ∷ []) h m =
+        ap (λ (n : ℕ). n * powers 2 / 16777216 % 256) (omega arith)
+        ∙ fourth-byte 2 (a + 16 * x) (b + 16 * y) (c + 16 * z) (d + 16 * w) (omega (arith, k .0, k .1 .0, k .1 .1 .0, m .0, m .1 .0, m .1 .1 .0)) (omega (arith, k .0, k .1 .0, k .1 .1 .0, k .1 .1 .1 .0, m .0, m .1 .0, m .1 .1 .0, m .1 .1 .1 .0))
+        ∙ omega arith
+    second [] h m = absurd (omega arith)
+    second (x ∷ []) h m = absurd (omega arith)
+    second (x ∷ y ∷ []) h m = absurd (omega arith)
+    second (x ∷ y ∷ z ∷ []) h m = absurd (omega arith)
+    second (x ∷ y ∷ z ∷ w ∷ v ∷ l) h m = absurd (omega arith)
+gathered-two [] r e h k m = absurd (omega arith)
+gathered-two (a ∷ []) r e h k m = absurd (omega arith)
+gathered-two (a ∷ b ∷ []) r e h k m = absurd (omega arith)
+gathered-two (a ∷ b ∷ c ∷ []) r e h k m = absurd (omega arith)
+gathered-two (a ∷ b ∷ c ∷ d ∷ f ∷ l) r e h k m = absurd (omega arith)
 
 pub digitsOf-entryOf : (q n : ℕ) (ds : List ℕ) → length ds ≡ n → Below q ds → digitsOf q n (entryOf q ds) ≡ ds
 digitsOf-entryOf q zero [] e h = refl
