@@ -47,14 +47,15 @@ pub fn check_point(s: Settings, e: &[i32], room: usize) -> Verdict
     }
 }
 
-fn larger(a: u8, b: u8) -> u8
+// A number that neither of two is past: the greater.
+pub fn larger(a: u8, b: u8) -> u8
     ensures { λ r. ⌜ (a ≤ r) × (b ≤ r) ⌝ }
 {
     if a < b { b } else { a }
 }
 
 // A number that no digit is past: the greatest of them, found without a jump for each.
-fn greatest(ds: &[u8]) -> u8
+pub fn greatest(ds: &[u8]) -> u8
     ensures { λ r. ⌜ Below (suc r) (now (ds .entry)) ⌝ }
 {
     let mut top: u8 = 0;

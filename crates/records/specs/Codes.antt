@@ -56,6 +56,16 @@ abbrev pub checkBlocks : ℕ → ℕ → ℕ → ℕ → List (List ℕ) → Ver
 checkBlocks steps q n i [] = Accepted
 checkBlocks steps q n i (b ∷ l) = firstRefusal (checkBlock steps q i b ∷ checkBlocks steps q n (i + n) l ∷ [])
 
+-- k blocks of n bytes that are accepted, whatever place the first byte has
+abbrev pub AllAccepted : ℕ → ℕ → ℕ → ℕ → List ℕ → Type 0
+AllAccepted steps q n k f = (i : ℕ) → checkBlocks steps q n i (cut n k f) ≡ Accepted
+
+-- eight numbers, and eight digits of ds from the place a: the first n of r are below neither of theirs
+pub record Raised (top ds : List ℕ) (a n : ℕ) (r : List ℕ) : Type 0 where
+  pub long : length r ≡ 8
+  pub kept : (j : ℕ) → j < n → getD top j 0 ≤ getD r j 0
+  pub found : (j : ℕ) → j < n → getD ds (a + j) 0 ≤ getD r j 0
+
 -- ---- what the code relies on, once checked
 
 -- q and m within their limits

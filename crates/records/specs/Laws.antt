@@ -6,3 +6,4 @@ pub mod Hours
 pub mod Codes
 pub mod Least
 pub mod Asked
+pub mod Glance

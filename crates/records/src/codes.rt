@@ -1,9 +1,11 @@
 // Code records: the one check that decoding, scores and searches make (01, When the unit says no).
 ghost use mathlib.Core.Path.{_≡_};
+ghost use mathlib.Core.Bool.{true};
 ghost use Prim.Native.Nat.{_+_, _*_, _^_, _<_, _≤_};
 ghost use lib.ListN.{length, getD};
 ghost use Rattle.layers.specs.Digits.{cut};
-ghost use Rattle.records.specs.Codes.{blockSize, blocksIn, stepOf, checkBlock, checkBlocks};
+ghost use Rattle.records.specs.Codes.{blockSize, blocksIn, stepOf, checkBlock, checkBlocks, AllAccepted, Raised};
+ghost use Rattle.refusals.specs.Limits.{mMost};
 use coding::asked;
 use readings::words;
 use refusals::Refusal;
@@ -45,15 +47,75 @@ fn check_block(b: &[u8], steps: usize, q: usize, first: usize) -> Verdict
     }
 }
 
-// Refusal 7 at the first byte at fault of k blocks of n bytes, the first byte in the place `first`.
-pub fn check_blocks(
-    body: &[u8],
-    k: usize,
-    n: usize,
-    steps: usize,
-    q: usize,
-    first: usize,
-) -> Verdict
+// 1 where a block's first byte names no step, else 0.
+fn fault(t: u8, steps: usize) -> usize
+    ensures { λ r. ⌜ (r ≤ 1) × (r ≡ 0 → t < steps) ⌝ }
+{
+    if integers::wide(t) < steps { 0 } else { 1 }
+}
+
+// Eight digits, and what was found of those before: the greater of each two.
+fn raised(top: &[u8; 8], ds: &[u8], at: usize) -> [u8; 8]
+    requires { ⌜ (length (now top) ≡ 8) × (at + 8 ≤ length (now ds)) ⌝ }
+    ensures { λ r. ⌜ Raised (now (top .entry)) (now (ds .entry)) at 8 r ⌝ }
+{
+    let mut r: [u8; 8] = [0; 8];
+    let mut i: usize = 0;
+    while i < 8 {
+        r[i] = asked::larger(top[i], ds[at + i]);
+        i = i + 1;
+    }
+    r
+}
+
+// Whether k blocks of m layers have only steps and digits that there are: the greatest digits side by side, and the faults of the first bytes, without a jump for any.
+fn all_below(body: &[u8], k: usize, m: usize, steps: usize, q: usize) -> bool
+    requires { ⌜ (m ≤ mMost) × (blockSize m * k ≤ length (now body)) ⌝ }
+    ensures { λ r. ⌜ (r ≡ true → AllAccepted steps q (blockSize m) k (now (body .entry))) ⌝ }
+{
+    let n = block_size(m);
+    let mut faults: usize = 0;
+    let mut top: [u8; 8] = [0; 8];
+    let mut i: usize = 0;
+    while i < k {
+        let at = n * i;
+        faults = faults + fault(body[at], steps);
+        let mut j: usize = 0;
+        while j < m {
+            top = raised(&top, body, at + 1 + 8 * j);
+            j = j + 1;
+        }
+        i = i + 1;
+    }
+    if faults == 0 {
+        (asked::greatest(&top) as usize) < q
+    } else {
+        false
+    }
+}
+
+// The same with each size of a block as a constant, so that a compiler knows how many layers there are. Of another size it says nothing.
+fn all_good(body: &[u8], k: usize, n: usize, steps: usize, q: usize) -> bool
+    requires { ⌜ n * k ≤ length (now body) ⌝ }
+    ensures { λ r. ⌜ (r ≡ true → AllAccepted steps q n k (now (body .entry))) ⌝ }
+{
+    if n == 9 {
+        return all_below(body, k, 1, steps, q);
+    }
+    if n == 17 {
+        return all_below(body, k, 2, steps, q);
+    }
+    if n == 25 {
+        return all_below(body, k, 3, steps, q);
+    }
+    if n == 33 {
+        return all_below(body, k, 4, steps, q);
+    }
+    false
+}
+
+// Refusal 7 at the first byte at fault of k blocks of n bytes, the first byte in the place `first`: block by block.
+fn first_fault(body: &[u8], k: usize, n: usize, steps: usize, q: usize, first: usize) -> Verdict
     requires { ⌜ (1 ≤ n) × (n * k ≤ length (now body)) × (first + length (now body) < 2 ^ 64) ⌝ }
     ensures { λ r. ⌜ r ≡ checkBlocks steps q n first (cut n k (now (body .entry))) ⌝ }
 {
@@ -71,4 +133,22 @@ pub fn check_blocks(
         }
     }
     Verdict::Accepted
+}
+
+// The same, at a glance where every byte is good, as in most records.
+pub fn check_blocks(
+    body: &[u8],
+    k: usize,
+    n: usize,
+    steps: usize,
+    q: usize,
+    first: usize,
+) -> Verdict
+    requires { ⌜ (1 ≤ n) × (n * k ≤ length (now body)) × (first + length (now body) < 2 ^ 64) ⌝ }
+    ensures { λ r. ⌜ r ≡ checkBlocks steps q n first (cut n k (now (body .entry))) ⌝ }
+{
+    if all_good(body, k, n, steps, q) {
+        return Verdict::Accepted;
+    }
+    first_fault(body, k, n, steps, q, first)
 }
