@@ -11,10 +11,14 @@ use Rattle.layers.specs.E8.{layerPoint8}
 abbrev pub column : {A : Type 0} → A → ℕ → List (List A) → List A
 column {A} blank t c = map (λ (row : List A). getD row t blank) c
 
+-- m rows of n entries
+pub record Grid {A : Type 0} (m n : ℕ) (c : List (List A)) : Type 0 where
+  pub long : length c ≡ m
+  pub rows : (j : ℕ) → j < m → length (getD c j []) ≡ n
+
 -- eight rows of eight entries
-pub record Square8 {A : Type 0} (c : List (List A)) : Type 0 where
-  pub long : length c ≡ 8
-  pub rows : (j : ℕ) → j < 8 → length (getD c j []) ≡ 8
+abbrev pub Square8 : {A : Type 0} → List (List A) → Type 0
+Square8 c = Grid 8 8 c
 
 -- eight layers of digits
 pub record LayerColumns (q : ℕ) (c : List (List ℕ)) : Type 0 where

@@ -2,7 +2,7 @@
 use mathlib.Core.Path.{_≡_}
 use mathlib.Core.Bool.{cond}
 use mathlib.Core.List.{List, map}
-use Prim.Native.Nat.{ℕ, _+_, _*_, _<_, _≤_}
+use Prim.Native.Nat.{ℕ, zero, suc, _+_, _*_, _<_, _≤_}
 use lib.Dec.{eqb}
 use lib.IntN.{ℤ, pos, negℤ, natAbs, _+ℤ_, _-ℤ_, _*ℤ_}
 use lib.ListN.{length}
@@ -15,7 +15,8 @@ use Rattle.columns.specs.declared.narrow.Choice as choices
 use Rattle.columns.specs.declared.narrow.Mend as mends
 use Rattle.columns.specs.declared.narrow.Scan as scans
 use Rattle.rounding.specs.declared.point.Choice.{Choice}
-use Rattle.rounding.specs.Rounding.{sign}
+use Rattle.rounding.specs.Pass.{seen}
+use Rattle.rounding.specs.Rounding.{sign, key}
 
 -- a divisor up to 16, and eight numbers that three comparisons round
 pub record Narrow (s : ℤ) (d : List ℤ) : Type 0 where
@@ -47,7 +48,23 @@ wideMend m = record { place = m .place; step = m .step; cost = m .cost }
 abbrev pub brief : Choice → choices.Choice
 brief h = record { parity = h .parity; place = h .mend .place; step = h .mend .step }
 
+-- ---- a pass over some entries
+
+-- what n entries of the roundings f, which leave r, show, from the entry k on
+unfoldable pub scannedFrom : ℤ → ℕ → ℕ → List ℤ → List ℤ → Scan
+scannedFrom s k zero f r = record { most = key k («at» r k); least = key k («at» r k); keys = 0; sum = pos 0; even = pos 0; odd = pos 0 }
+scannedFrom s k (suc n) f r = seen s (scannedFrom s k n f r) («at» f (k + n)) («at» r (k + n)) (k + n)
+
 -- ---- how large they are
+
+-- a pass over n entries, where none leaves more than R
+pub record Part (R n : ℕ) (c : Scan) : Type 0 where
+  pub most : c .most ≤ 16 * R + 15
+  pub least : c .least ≤ 16 * R + 15
+  pub keys : c .keys ≤ 271 * n
+  pub sum : natAbs (c .sum) ≤ 2 * n
+  pub even : natAbs (c .even) ≤ 256 * n
+  pub odd : natAbs (c .odd) ≤ 1024 * n
 
 -- small enough for one entry more
 pub record Slim (c : Scan) : Type 0 where

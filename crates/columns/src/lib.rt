@@ -27,7 +27,7 @@ fn column(c: &[[u8; 8]; 8], t: usize) -> [u8; 8]
 }
 
 // Eight digits below 16 as coefficients.
-fn widened(ds: &[u8; 8]) -> [i16; 8]
+pub fn widened(ds: &[u8; 8]) -> [i16; 8]
     requires { ⌜ IsLayer 8 16 (now ds) ⌝ }
     ensures { λ r. ⌜ r ≡ map pos (now (ds .entry)) ⌝ }
 {
@@ -49,7 +49,7 @@ fn middle(c: &[i16; 8], k: usize) -> i16
 }
 
 // The doubled point of eight coefficients up to 16.
-fn point_of(c: &[i16; 8]) -> [i16; 8]
+pub fn point_of(c: &[i16; 8]) -> [i16; 8]
     requires { ⌜ Sized 8 16 (now c) ⌝ }
     ensures { λ r. ⌜ r ≡ pointOf (now (c .entry)) ⌝ }
 {

@@ -2,7 +2,7 @@
 ghost use mathlib.Core.Path.{_≡_};
 ghost use mathlib.Core.Bool.{cond};
 ghost use mathlib.Core.List.{map};
-ghost use Prim.Native.Nat.{_≤_, _<_, min, max};
+ghost use Prim.Native.Nat.{_+_, _≤_, _<_, min, max};
 ghost use lib.Dec.{eqb};
 ghost use lib.IntN.{pos, natAbs, _*ℤ_};
 ghost use lib.ListN.{length};
@@ -10,18 +10,18 @@ ghost use lib.Signed.{ltZ};
 ghost use Rattle.integers.specs.Vectors.{subV, scaleV, Sized};
 ghost use Rattle.lattice.specs.Computed.{nearestPoint};
 ghost use Rattle.lattice.specs.Doubled.{par};
-ghost use Rattle.columns.specs.Narrow.{Few, Near, Narrow, Slim, Slender, Slight, wide, wideMend, brief, leftBy};
-ghost use Rattle.rounding.specs.Pass.{seen, scanned, mended, first, lead, chosen};
+ghost use Rattle.columns.specs.Narrow.{Few, Near, Narrow, Slim, Slender, Slight, wide, wideMend, brief, scannedFrom, leftBy};
+ghost use Rattle.rounding.specs.Pass.{seen, mended, first, lead, chosen};
 ghost use Rattle.rounding.specs.Rounding.{round, left, sign, lowered, key, spot};
 
 // What one pass sees, as in the wide pass: the greatest and the least key, the sum of all keys, that of all roundings, and the squares of what each half leaves.
-struct Scan {
-    most: u16,
-    least: u16,
-    keys: u16,
-    sum: i16,
-    even: i16,
-    odd: i16,
+pub struct Scan {
+    pub most: u16,
+    pub least: u16,
+    pub keys: u16,
+    pub sum: i16,
+    pub even: i16,
+    pub odd: i16,
 }
 
 // How a half is mended: a step at a place, doubled, and what it adds to the cost.
@@ -32,10 +32,10 @@ struct Mend {
 }
 
 // The half that is chosen, by its parity, and where and how it is mended.
-struct Choice {
-    parity: i16,
-    place: u16,
-    step: i16,
+pub struct Choice {
+    pub parity: i16,
+    pub place: u16,
+    pub step: i16,
 }
 
 // 1 where x is above y, else 0.
@@ -74,14 +74,14 @@ fn place_of(first: bool, x: u16, y: u16) -> u16
 }
 
 // 1 where more than nothing is left, else -1.
-fn sign(x: i16) -> i16
+pub fn sign(x: i16) -> i16
     ensures { λ r. ⌜ r ≡ sign x ⌝ }
 {
     if x > 0 { 1 } else { -1 }
 }
 
 // What the odd half leaves of a coordinate of which the even half leaves x.
-fn lowered(x: i16, s: i16) -> i16
+pub fn lowered(x: i16, s: i16) -> i16
     requires { ⌜ (natAbs x ≤ 16) × Few s ⌝ }
     ensures { λ r. ⌜ r ≡ lowered s x ⌝ }
 {
@@ -114,7 +114,7 @@ fn round(x: i16, s: i16) -> i16
 }
 
 // Every coordinate rounded into f; what that leaves into a.
-fn rounds(d: &[i16; 8], s: i16, f: &mut [i16; 8], a: &mut [i16; 8])
+pub fn rounds(d: &[i16; 8], s: i16, f: &mut [i16; 8], a: &mut [i16; 8])
     requires { ⌜ Narrow s (now d) × (length (now f) ≡ 8) × (length (now a) ≡ 8) ⌝ }
     ensures { λ _. ⌜ (now (f .exit) ≡ map (round (pos 2 *ℤ s)) (now (d .entry))) × (now (a .exit) ≡ map (left (pos 2 *ℤ s)) (now (d .entry))) ⌝ }
 {
@@ -144,12 +144,12 @@ fn seen(c: Scan, f: i16, a: i16, s: i16, i: usize) -> Scan
     }
 }
 
-// The pass over all eight.
-fn scanned(f: &[i16; 8], a: &[i16; 8], s: i16) -> Scan
-    requires { ⌜ Sized 8 2 (now f) × Sized 8 16 (now a) × Few s ⌝ }
-    ensures { λ c. ⌜ wide c ≡ scanned s 8 (now (f .entry)) (now (a .entry)) ⌝ }
+// The pass over n entries, from one on.
+pub fn scanned(f: &[i16; 8], a: &[i16; 8], s: i16, from: usize, n: usize) -> Scan
+    requires { ⌜ Sized 8 2 (now f) × Sized 8 16 (now a) × Few s × (from < 8) × (from + n ≤ 8) ⌝ }
+    ensures { λ c. ⌜ wide c ≡ scannedFrom s from n (now (f .entry)) (now (a .entry)) ⌝ }
 {
-    let k = key(a[0], 0);
+    let k = key(a[from], from);
     let mut c = Scan {
         most: k,
         least: k,
@@ -159,8 +159,8 @@ fn scanned(f: &[i16; 8], a: &[i16; 8], s: i16) -> Scan
         odd: 0,
     };
     let mut i: usize = 0;
-    while i < 8 {
-        c = seen(c, f[i], a[i], s, i);
+    while i < n {
+        c = seen(c, f[from + i], a[from + i], s, from + i);
         i = i + 1;
     }
     c
@@ -203,7 +203,7 @@ fn lead(a: i16, b: i16, x: Mend, y: Mend, way: i16) -> i16
 }
 
 // The choice, from what the pass has seen and the way of the first entry. The odd half has the keys 16s + 15 less those of the even one, and its sum the parity of the sum and the keys together.
-fn chosen(c: Scan, way: i16, s: i16) -> Choice
+pub fn chosen(c: Scan, way: i16, s: i16) -> Choice
     requires { ⌜ Few s × Slender s (wide c) × (natAbs way ≤ 1) ⌝ }
     ensures { λ r. ⌜ r ≡ brief (chosen s (wide c) way) ⌝ }
 {
@@ -239,6 +239,6 @@ pub fn rest(d: &[i16; 8], s: i16) -> [i16; 8]
     let mut f: [i16; 8] = [0; 8];
     let mut a: [i16; 8] = [0; 8];
     rounds(d, s, &mut f, &mut a);
-    let c = chosen(scanned(&f, &a, s), sign(a[0]), s);
+    let c = chosen(scanned(&f, &a, s, 0, 8), sign(a[0]), s);
     left(&a, c, s)
 }

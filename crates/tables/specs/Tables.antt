@@ -1,8 +1,6 @@
 -- The entries of the tables that scores are summed from, as our fillers write them (01, Scores).
-use mathlib.Core.Bool.{cond}
-use mathlib.Core.List.{List, [], _∷_, map}
-use Prim.Native.Nat.{ℕ, suc, _^_}
-use lib.Dec.{ltb}
+use mathlib.Core.List.{List, map}
+use Prim.Native.Nat.{ℕ, _^_}
 use lib.IntN.{ℤ}
 use Rattle.integers.specs.Laws.Loops.{range}
 use Rattle.integers.specs.Vectors.{dot}
@@ -46,8 +44,3 @@ queryPart q X = map (λ (i : ℕ). dot X (layerAt q i)) (range 0 (partSize q))
 -- the query table: the part of block k from k·q^8
 unfoldable pub queryTable : ℕ → List ℤ → List ℤ
 queryTable q X = joined (map (queryPart q) (inBlocks X))
-
--- the digits of the next entry number: the first that is not q - 1 goes up by one, and those before it become 0
-abbrev pub countedUp : ℕ → List ℕ → List ℕ
-countedUp q [] = []
-countedUp q (d ∷ ds) = cond (ltb (suc d) q) (suc d ∷ ds) (0 ∷ countedUp q ds)

@@ -13,12 +13,11 @@ ghost use Rattle.refusals.specs.Answers.{valued, written};
 ghost use Rattle.refusals.specs.Laws.Allowed.{Allowed};
 ghost use Rattle.refusals.specs.Settings.{checkSettings};
 ghost use Rattle.refusals.specs.Verdicts.{firstRefusal};
+ghost use Rattle.slices.specs.Slices.{Sizes, pointBy};
 ghost use Rattle.tables.specs.Filling.{checkTable, checkEntries, lentAsked, queryTableAsked, checkQueryTable, queryFilled, queryTableRoom};
-ghost use Rattle.tables.specs.Groups.{SizedColumns, GroupFilled};
+ghost use Rattle.tables.specs.Groups.{GroupFilled};
 ghost use Rattle.tables.specs.Tables.{queryMost, partSize, queryPart, queryTable};
-use crate::counting;
 use crate::parts;
-use crate::slots;
 use readings::words;
 use records::frames;
 use records::vectors;
@@ -28,13 +27,18 @@ use refusals::Verdict;
 use refusals::settings;
 use refusals::settings::Settings;
 use scores::hours;
+use slices::choices;
+use slices::sums;
 
 // The greatest q that the table is for.
 const QUERY_MOST: usize = 4;
 
-// In each of k parts the n entries from the first on: the sums of the block's readings with the layer points l of these entries. All else stays as found.
-fn fill_group(
-    l: &[[i16; 8]; 8],
+// In the parts of k blocks the entries of one slice, from the first on: the sums of each block's readings with the points that the choices and rests give. All else stays as found.
+fn fill_slices(
+    q: i16,
+    choices: &[u8],
+    lows: &[[i16; 3]; 256],
+    highs: &[[i16; 5]; 256],
     x: &[i32],
     size: usize,
     k: usize,
@@ -42,8 +46,8 @@ fn fill_group(
     n: usize,
     entries: &mut [i32],
 )
-    requires { ⌜ SizedColumns 8 (now l) × Sized (8 * k) (2 ^ 24) (now x) × (first + n ≤ size) × (n ≤ 8) × (size ≤ 65536) × (k ≤ 64) × (size * k ≤ length (now entries)) ⌝ }
-    ensures { λ _. ⌜ GroupFilled size first n (now (l .entry)) (now (x .entry)) (now (entries .entry)) k (now (entries .exit)) ⌝ }
+    requires { ⌜ Sizes q (now choices) (now lows) (now highs) × (n ≡ natAbs q ^ 7) × Sized (8 * k) (2 ^ 24) (now x) × (first + n ≤ size) × (size ≤ 65536) × (k ≤ 64) × (size * k ≤ length (now entries)) ⌝ }
+    ensures { λ _. ⌜ GroupFilled size first n (pointBy q (now (choices .entry)) (now (lows .entry)) (now (highs .entry))) (now (x .entry)) (now (entries .entry)) k (now (entries .exit)) ⌝ }
 {
     let mut b: usize = 0;
     while b < k {
@@ -51,27 +55,39 @@ fn fill_group(
         let end = at + 8;
         let from = size * b + first;
         let to = from + n;
-        slots::fill_slots(l, &x[at..end], &mut entries[from..to]);
+        sums::fill_slice(q, choices, lows, highs, &x[at..end], &mut entries[from..to]);
         b = b + 1;
     }
 }
 
-// The parts of k blocks at the front of the lent table, eight entries of each at a time, whose layer points are made once for all blocks. The entries past the last part stay as found.
+// The parts of k blocks at the front of the lent table, slice after slice, whose choices and rests are found once for all blocks. The entries past the last part stay as found.
 pub fn fill_blocks(x: &[i32], q: i64, k: usize, entries: &mut [i32])
     requires { ⌜ Base q × (natAbs q ≤ queryMost) × Sized (8 * k) (2 ^ 24) (now x) × (partSize (natAbs q) * k ≤ length (now entries)) × (k ≤ 64) ⌝ }
     ensures { λ _. ⌜ now (entries .exit) ≡ joined (map (queryPart (natAbs q)) (cut 8 k (now (x .entry)))) ++ drop (partSize (natAbs q) * k) (now (entries .entry)) ⌝ }
 {
     let size = parts::part_size(q);
-    let values = q as u8;
+    let n = size / q as usize;
     let base = q as i16;
-    let mut ds: [u8; 8] = [0; 8];
-    let mut i: usize = 0;
-    while i < size {
-        let n = integers::smaller(8, size - i);
-        let c = counting::counted(&mut ds, values, n);
-        let l = columns::layer_points(&c, base);
-        fill_group(&l, x, size, k, i, n, entries);
-        i = i + n;
+    let values = q as u8;
+    let mut halves: [u8; 16384] = [0; 16384];
+    let mut lows: [[i16; 3]; 256] = [[0; 3]; 256];
+    let mut highs: [[i16; 5]; 256] = [[0; 5]; 256];
+    let mut last: u8 = 0;
+    while last < values {
+        choices::fill_choices(base, last, &mut halves, &mut lows, &mut highs);
+        fill_slices(
+            base,
+            &halves,
+            &lows,
+            &highs,
+            x,
+            size,
+            k,
+            n * last as usize,
+            n,
+            entries,
+        );
+        last = last + 1;
     }
 }
 

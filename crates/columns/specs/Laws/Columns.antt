@@ -6,7 +6,7 @@ use Prim.Native.Nat.{ℕ, zero, suc, _+_, _<_, _≤_}
 use native.Mathlib.Omega.{arith}
 use native.Mathlib.Decide.{ℕ-discrete}
 use lib.IntN.{ℤ, pos, negsuc, negℤ, natAbs, _+ℤ_, _-ℤ_, _*ℤ_}
-use lib.ListN.{length, getD, set, replicate, length-set, length-map}
+use lib.ListN.{length, getD, set, replicate, length-set, length-map, getD-replicate}
 use lib.Seq.{getD-set-same, getD-set-other, map-set-same}
 use lib.Signed.{_≤ℤ_, _<ℤ_}
 use Rattle.integers.specs.Laws.Difference.{ints, byD, byD₂, byD₃}
@@ -15,7 +15,7 @@ use Rattle.integers.specs.Vectors.{«at», zeros, subV, scaleV}
 use Rattle.lattice.specs.Basis.{pointOf}
 use Rattle.lattice.specs.Computed.{nearestPoint}
 use Rattle.columns.specs.Narrow.{Narrow}
-use Rattle.columns.specs.Columns.{column, Square8, PointColumns}
+use Rattle.columns.specs.Columns.{column, Grid, Square8, PointColumns}
 use Rattle.layers.specs.Digits.{IsLayer}
 use Rattle.layers.specs.E8.{layerPoint8}
 use Rattle.layers.specs.Laws.Bases.{base-is, base-divisor}
@@ -30,11 +30,11 @@ map-set f [] j x = refl
 map-set f (y ∷ l) zero x = refl
 map-set f (y ∷ l) (suc j) x = ap (λ t. f y ∷ t) (map-set f l j x)
 
-module _ {A : Type 0} (blank : A) (l : List (List A)) (h : Square8 l) (j t : ℕ) (hj : j < 8) (ht : t < 8) (z : A) where
+module _ {A : Type 0} (blank : A) {m n : ℕ} (l : List (List A)) (h : Grid m n l) (j t : ℕ) (hj : j < m) (ht : t < n) (z : A) where
   abbrev put : List (List A)
   put = set l j (set (getD l j []) t z)
 
-  pub put-square : Square8 put
+  pub put-square : Grid m n put
   put-square = record {
     long = length-set l j _ ∙ h .long;
     rows = λ i hi. elim (ℕ-discrete i j) [
@@ -62,13 +62,8 @@ pub record Pointing (q : ℕ) (c : List (List ℕ)) (t : ℕ) (r : List ℤ) (j 
   pub before : Pointed q c t l
   pub filled : Filled (λ (x : ℤ). x) 8 r j (column (pos 0) t l)
 
-same-row : {A : Type 0} (row : List A) (n j : ℕ) → j < n → getD (replicate n row) j [] ≡ row
-same-row row zero j h = absurd (omega arith)
-same-row row (suc n) zero h = refl
-same-row row (suc n) (suc j) h = same-row row n j (omega arith)
-
 pub pointed-none : (q : ℕ) (c : List (List ℕ)) → Pointed q c 0 (replicate 8 (zeros 8))
-pointed-none q c = record { within = omega arith; square = record { long = refl; rows = λ j h. ap length (same-row (zeros 8) 8 j h) }; done = λ u h. absurd (omega arith) }
+pointed-none q c = record { within = omega arith; square = record { long = refl; rows = λ j h. ap length (getD-replicate 8 j (zeros 8) [] h) }; done = λ u h. absurd (omega arith) }
 
 module _ (q : ℕ) (c : List (List ℕ)) (t : ℕ) (ht : t < 8) (r : List ℤ) (long : length r ≡ 8) where
   pub pointing-none : {l : List (List ℤ)} → Pointed q c t l → Pointing q c t r 0 l
@@ -112,7 +107,8 @@ seventh-row = byD₂ _ λ _ _ _ _. simp ints (omega arith)
 last-row : (h : ℤ) → h ≡ pos 1 *ℤ h +ℤ pos 0
 last-row = byD _ λ _ _. simp ints (omega arith)
 
-skip : (x d : ℤ) → pos 0 *ℤ x +ℤ d ≡ d
+-- a coefficient 0
+pub skip : (x d : ℤ) → pos 0 *ℤ x +ℤ d ≡ d
 skip = byD₂ _ λ _ _ _ _. simp ints (omega arith)
 
 -- the coordinates of a list's point

@@ -3,7 +3,7 @@ use mathlib.Core.Path.{_≡_, refl, sym, _∙_, ap, subst}
 use mathlib.Core.Bool.{Bool, true, false, cond}
 use mathlib.Core.List.{List, [], _∷_, map}
 use Prim.Native.Nat.{ℕ, zero, suc, _+_, _*_, _/_, _<_, _≤_}
-use native.Mathlib.Nat.{zero-add, mul-le-mul}
+use native.Mathlib.Nat.{zero-add}
 use native.Mathlib.Omega.{arith}
 use borrow.Author.Tests.{eqb-true, eqb-false}
 use lib.Dec.{eqb}
@@ -13,19 +13,20 @@ use lib.Seq.{ext-getD, getD-set-same, getD-set-other}
 use lib.Signed.{_≤ℤ_, _<ℤ_, ltZ}
 use Rattle.integers.specs.Laws.Difference.{ints, byD₂, byD₃}
 use Rattle.integers.specs.Laws.Loops.{range-at}
-use Rattle.integers.specs.Laws.Sizes.{abs-sub, abs-mul, abs-mul-le, ltZ-true, ltZ-false}
+use Rattle.integers.specs.Laws.Sizes.{abs-add, abs-sub, abs-mul, abs-mul-le, ltZ-true, ltZ-false}
 use Rattle.integers.specs.Laws.Sums.{entries, lengths, at-map}
-use Rattle.integers.specs.Vectors.{«at», subV, scaleV, Bounded, Sized}
+use Rattle.integers.specs.Vectors.{square, «at», subV, scaleV, Bounded, Sized}
 use Rattle.rounding.specs.declared.half.Mend.{Mend}
+use Rattle.rounding.specs.declared.half.Scan.{Scan}
 use Rattle.rounding.specs.declared.point.Choice.{Choice}
 use Rattle.lattice.specs.Computed.{nearestPoint}
 use Rattle.rounding.specs.Laws.Choice.{mended-bound, nearestPoint-code}
 use Rattle.rounding.specs.Laws.Keys.{key-small}
+use Rattle.rounding.specs.Laws.Lowered.{lowered-small}
 use Rattle.rounding.specs.Laws.Reciprocals.{twice-pos, round-is, left-small}
-use Rattle.rounding.specs.Laws.Scans.{keys-bound, sum-bounded, even-bound, odd-bound, scan-most, scan-least}
-use Rattle.columns.specs.Narrow.{Few, Near, Narrow, Slim, Slender, Slight, brief, leftAt, leftBy}
-use Rattle.rounding.specs.Pass.{scanned, mended, choose, chosen, spreadBy}
-use Rattle.rounding.specs.Rounding.{round, left, sign, Divisor}
+use Rattle.columns.specs.Narrow.{Few, Near, Narrow, Part, Slim, Slender, Slight, brief, leftAt, leftBy, scannedFrom}
+use Rattle.rounding.specs.Pass.{seen, scanned, mended, choose, chosen, spreadBy}
+use Rattle.rounding.specs.Rounding.{round, left, sign, lowered, key, Divisor}
 
 pub few-divisor : {s : ℤ} → Few s → Divisor s
 few-divisor h = record { least = h .least; most = omega (arith, h .most) }
@@ -105,6 +106,9 @@ module _ {s : ℤ} {d : List ℤ} (h : Narrow s d) where
   pub lefts-few : Sized 8 (natAbs s) (map (left (pos 2 *ℤ s)) d)
   lefts-few = record { long = length-map d (left (pos 2 *ℤ s)) ∙ h .long; small = map-bound (left (pos 2 *ℤ s)) (natAbs s) d (λ i l. left-small s (few-divisor (narrow-few h)) («at» d i)) }
 
+pub part-slim : {R n : ℕ} {c : Scan} → n ≤ 8 → Part R n c → Slim c
+part-slim l p = record { keys = omega (arith, p .keys); sum = omega (arith, p .sum); even = omega (arith, p .even); odd = omega (arith, p .odd) }
+
 module _ (s : ℤ) (h : Few s) where
   pub four-few : natAbs (pos 4 *ℤ s) ≤ 64
   four-few = omega (arith, abs-mul (pos 4) s, h .most)
@@ -118,21 +122,34 @@ module _ (s : ℤ) (h : Few s) where
   pub mended-slight : (k : ℕ) → k ≤ 271 → (b : Bool) → Slight (mended s k b)
   mended-slight k l b = let m = mended-bound 2048 s k (mend-few k l) b in record { step = m .0; cost = m .1 }
 
-  module _ (f r : List ℤ) (hf : Bounded 2 f) where
-    pub scan-slim : Bounded 16 r → (n : ℕ) → n ≤ 8 → Slim (scanned s n f r)
-    scan-slim hr n l = let m : 16 + natAbs s ≤ 32 = omega (arith, h .most) in record {
-      keys = omega (arith, keys-bound s f r 2 16 hf hr n l);
-      sum = omega (arith, sum-bounded s f r 2 16 hf hr n);
-      even = omega (arith, even-bound s f r 2 16 hf hr n);
-      odd = omega (arith, odd-bound s f r 2 16 hf hr n, mul-le-mul l (mul-le-mul m m));
-    }
+  -- a pass over some entries
+  module _ (R : ℕ) (most : R ≤ 16) (f r : List ℤ) (hf : Bounded 2 f) (hr : Bounded R r) where
+    key-few : (i : ℕ) → i < 8 → key i («at» r i) ≤ 16 * R + 15
+    key-few i l = omega (arith, key-small i («at» r i) l .1, hr i)
 
-    pub scan-slender : Bounded (natAbs s) r → Slender s (scanned s 8 f r)
-    scan-slender hr = let m = scan-most s f r 8 (omega arith) .1 in let l = scan-least s f r 8 (omega arith) .1 in record {
-      most = omega (arith, m .2, key-small (m .0) («at» r (m .0)) (m .1) .1, hr (m .0), h .most);
-      least = omega (arith, l .2, key-small (l .0) («at» r (l .0)) (l .1) .1, hr (l .0));
-      slim = scan-slim (λ i. omega (arith, hr i, h .most)) 8 (omega arith);
-    }
+    pub scan-part : (k n : ℕ) → k < 8 → k + n ≤ 8 → Part R n (scannedFrom s k n f r)
+    unfolding scannedFrom
+    scan-part k zero k< l = record { most = key-few k k<; least = key-few k k<; keys = omega arith; sum = omega arith; even = omega arith; odd = omega arith }
+    scan-part k (suc n) k< l =
+        let p = scan-part k n k< (omega arith) in let c : Scan = scannedFrom s k n f r in let i : ℕ = k + n in let x : ℤ = «at» r i in let y : ℤ = lowered s x in
+        let x≤ : natAbs x ≤ 16 = omega (arith, hr i) in let y≤ : natAbs y ≤ 32 = omega (arith, lowered-small s x, h .most) in let m = key-few i (omega arith) in
+        record {
+          most = omega (arith, p .most, m);
+          least = omega (arith, p .least, m);
+          keys = omega (arith, p .keys, m);
+          sum = omega (arith, p .sum, abs-add (c .sum) («at» f i), hf i);
+          even = omega (arith, p .even, abs-add (c .even) (square x), abs-mul-le x x x≤ x≤);
+          odd = omega (arith, p .odd, abs-add (c .odd) (square y), abs-mul-le y y y≤ y≤);
+        }
+
+  pub part-slender : {c : Scan} → Part (natAbs s) 8 c → Slender s c
+  part-slender p = record { most = omega (arith, p .most, h .most); least = p .least; slim = part-slim (omega arith) p }
+
+-- from the first entry on
+pub from-first : (s : ℤ) (n : ℕ) (f r : List ℤ) → scannedFrom s 0 n f r ≡ scanned s n f r
+unfolding scannedFrom scanned
+from-first s zero f r = refl
+from-first s (suc n) f r = rw (zero-add n) (ap (λ (c : Scan). seen s c («at» f n) («at» r n) n) (from-first s n f r))
 
 -- ---- what is left
 

@@ -1,8 +1,8 @@
 -- What stands where in the tables: their lengths, the entry of each number, the part of each block.
 use mathlib.Core.Path.{_≡_, refl, sym, _∙_, ap, ap₂, subst}
 use mathlib.Core.List.{List, [], _∷_, _++_, map}
-use Prim.Native.Nat.{ℕ, zero, suc, _+_, _*_, _-_, _/_, _<_, _≤_}
-use native.Mathlib.Nat.{pow-le-pow-left}
+use Prim.Native.Nat.{ℕ, zero, suc, _+_, _*_, _-_, _/_, _^_, _<_, _≤_}
+use native.Mathlib.Nat.{pow-le-pow-left, pow-succ', mul-div-right}
 use native.Mathlib.Numerals.{add-one}
 use native.Mathlib.Omega.{arith}
 use lib.IntN.{ℤ, pos}
@@ -137,6 +137,15 @@ part-most q h = pow-le-pow-left h 8
 pub part-squares : (q : ℕ) → q * q * (q * q) * (q * q * (q * q)) ≡ partSize q
 unfolding partSize
 part-squares q = sym (pow-add q 4 4 ∙ ap₂ _*_ (pow-four q) (pow-four q))
+
+-- they are q slices of q^7
+pub part-slices : (q : ℕ) → q * q ^ 7 ≡ partSize q
+unfolding partSize
+part-slices q = sym (pow-succ' q 7)
+
+-- and the q-th part of them is one
+pub slice-size : (q : ℕ) → 0 < q → partSize q / q ≡ q ^ 7
+slice-size q q> = ap (λ (n : ℕ). n / q) (sym (part-slices q)) ∙ mul-div-right (q ^ 7) q>
 
 -- layer i of a block, whose first byte is T
 pub block-layer : (b : List ℕ) (i : ℕ) → take (8 * i + 1 + 8 - (8 * i + 1)) (drop (8 * i + 1) b) ≡ take 8 (drop (8 * i) (drop 1 b))

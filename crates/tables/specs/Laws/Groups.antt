@@ -8,62 +8,36 @@ use native.Mathlib.Nat.{mul-le-mul, le-refl, div-add-mod, mod-lt}
 use native.Mathlib.Omega.{arith}
 use borrow.Rule.Slice.PartMut.{putMid}
 use lib.IntN.{ℤ, pos}
-use lib.ListN.{length, take, drop, length-append, length-take, length-drop, List·getD-append}
-use lib.Seq.{getD-take, getD-drop, getD-append-add, length-take-le, ext-getD}
+use lib.ListN.{length, take, drop, length-append, length-drop}
+use lib.Seq.{getD-drop, getD-append-add, ext-getD}
 use Rattle.integers.specs.Vectors.{«at», dot}
-use Rattle.columns.specs.Columns.{column}
 use Rattle.layers.specs.Digits.{joined, cut}
 use Rattle.records.specs.Laws.Parts.{part-ends, cut-long}
-use Rattle.tables.specs.Groups.{ColumnDots, GroupFilled}
+use Rattle.slices.specs.Laws.Parts.{put-long, put-before, put-in, put-after}
+use Rattle.slices.specs.Slices.{Dots}
+use Rattle.tables.specs.Groups.{GroupFilled}
 use Rattle.tables.specs.Laws.Entries.{parts-long, parts-at}
 use Rattle.tables.specs.Tables.{partSize, layerAt, queryPart}
 
--- ---- a part of n entries from a on comes back as p
-
-module _ (a n : ℕ) (e p : List ℤ) (long : length p ≡ n) (room : a + n ≤ length e) where
-  front : length (take a e) ≡ a
-  front = length-take-le a e (omega arith)
-
-  pub put-long : length (putMid a n e p) ≡ length e
-  put-long = simp (length-append, length-take, length-drop) (omega arith)
-
-  -- before it
-  pub put-before : (i : ℕ) → i < a → «at» (putMid a n e p) i ≡ «at» e i
-  put-before i h = List·getD-append (take a e) (p ++ drop n (drop a e)) (pos 0) i (omega (arith, front)) ∙ getD-take a e i (pos 0) h
-
-  from : (j : ℕ) → «at» (putMid a n e p) (a + j) ≡ «at» (p ++ drop n (drop a e)) j
-  from j = subst (λ (b : ℕ). «at» (putMid a n e p) (b + j) ≡ «at» (p ++ drop n (drop a e)) j) front (getD-append-add (take a e) (p ++ drop n (drop a e)) j (pos 0))
-
-  -- in it
-  pub put-in : (j : ℕ) → j < n → «at» (putMid a n e p) (a + j) ≡ «at» p j
-  put-in j h = from j ∙ List·getD-append p (drop n (drop a e)) (pos 0) j (omega arith)
-
-  -- after it
-  pub put-after : (i : ℕ) → a + n ≤ i → «at» (putMid a n e p) i ≡ «at» e i
-  put-after i h = let j : ℕ = i - (a + n) in let w : a + (n + j) ≡ i = omega arith in
-      subst (λ (i : ℕ). «at» (putMid a n e p) i ≡ «at» e i) w
-      (from (n + j) ∙ subst (λ (m : ℕ). «at» (p ++ drop n (drop a e)) (m + j) ≡ «at» (drop n (drop a e)) j) long (getD-append-add p (drop n (drop a e)) j (pos 0))
-      ∙ getD-drop n (drop a e) j (pos 0) ∙ getD-drop a e (n + j) (pos 0))
-
 -- ---- one group, block by block
 
-module _ (size i n : ℕ) (l : List (List ℤ)) (X o : List ℤ) where
+module _ (size i n : ℕ) (point : ℕ → List ℤ) (X o : List ℤ) where
   -- no block yet
-  pub group-none : GroupFilled size i n l X o 0 o
+  pub group-none : GroupFilled size i n point X o 0 o
   group-none = record { long = refl; filled = λ b t h k. absurd (omega arith); kept = λ p h. refl }
 
   -- block b too, whose entries were lent and came back as the sums
-  pub group-more : (b : ℕ) (e p : List ℤ) → GroupFilled size i n l X o b e → ColumnDots n l (take 8 (drop (8 * b) X)) p → i + n ≤ size → size * b + i + n ≤ length e
-      → GroupFilled size i n l X o (b + 1) (putMid (size * b + i) n e p)
+  pub group-more : (b : ℕ) (e p : List ℤ) → GroupFilled size i n point X o b e → Dots n point (take 8 (drop (8 * b) X)) p → i + n ≤ size → size * b + i + n ≤ length e
+      → GroupFilled size i n point X o (b + 1) (putMid (size * b + i) n e p)
   group-more b e p g d h room = record {
     long = put-long a n e p (d .long) room ∙ g .long;
     filled = λ c t k m. elim (ℕ-discrete c b) [
-      | yes x ↦ subst (λ (c : ℕ). «at» (putMid a n e p) (size * c + i + t) ≡ dot (take 8 (drop (8 * c) X)) (column (pos 0) t l)) (sym x) (put-in a n e p (d .long) room t m ∙ d .each t m)
-      | no x ↦ put-before a n e p (d .long) room (size * c + i + t) (omega (arith, part-ends size c b (omega arith))) ∙ g .filled c t (omega arith) m
+      | yes x ↦ subst (λ (c : ℕ). «at» (putMid a n e p) (size * c + i + t) ≡ dot (take 8 (drop (8 * c) X)) (point t)) (sym x) (put-in a n e p (d .long) room (pos 0) t m ∙ d .each t m)
+      | no x ↦ put-before a n e p (d .long) room (pos 0) (size * c + i + t) (omega (arith, part-ends size c b (omega arith))) ∙ g .filled c t (omega arith) m
     ];
     kept = λ j k. elim (k b (omega arith)) [
-      | inl x ↦ put-before a n e p (d .long) room j x
-      | inr x ↦ put-after a n e p (d .long) room j x
+      | inl x ↦ put-before a n e p (d .long) room (pos 0) j x
+      | inr x ↦ put-after a n e p (d .long) room (pos 0) j x
     ] ∙ g .kept j (λ c m. k c (omega arith));
   }
     where
@@ -95,10 +69,10 @@ module _ (q k : ℕ) (X o : List ℤ) where
   filled-none = record { long = refl; filled = λ b j h m. absurd (omega arith); rest = λ p h. refl }
 
   module _ (i : ℕ) (e : List ℤ) (f : FilledTo q k X o i e) where
-    -- one group more, whose layer points stand side by side
-    pub filled-more : (n : ℕ) (l : List (List ℤ)) (e′ : List ℤ) → GroupFilled (partSize q) i n l X e k e′ → i + n ≤ partSize q → ((t : ℕ) → t < n → column (pos 0) t l ≡ layerAt q (i + t))
+    -- one group more, whose points are the layer points
+    pub filled-more : (n : ℕ) (point : ℕ → List ℤ) (e′ : List ℤ) → GroupFilled (partSize q) i n point X e k e′ → i + n ≤ partSize q → ((t : ℕ) → t < n → point t ≡ layerAt q (i + t))
         → FilledTo q k X o (i + n) e′
-    filled-more n l e′ g h points = record {
+    filled-more n point e′ g h points = record {
       long = g .long ∙ f .long;
       filled = λ b j m w. elim (decLe i j) [
         | yes x ↦ let t : ℕ = j - i in let is : i + t ≡ j = omega arith in let place : partSize q * b + i + t ≡ partSize q * b + (i + t) = omega arith in

@@ -1,13 +1,10 @@
 -- How large the entries of the tables are: each coordinate of a layer point is at most 2 q, and nothing else is used.
-use mathlib.Core.Path.{sym, subst}
-use mathlib.Core.List.{List}
 use Prim.Native.Nat.{ℕ, _*_, _-_, _^_, _<_, _≤_}
 use native.Mathlib.Omega.{arith}
-use lib.IntN.{ℤ, natAbs}
+use lib.IntN.{natAbs}
 use Rattle.integers.specs.Laws.Sums.{sized-more}
-use Rattle.integers.specs.Vectors.{«at», Sized}
+use Rattle.integers.specs.Vectors.{Sized}
 use Rattle.lattice.specs.Doubled.{E8}
-use Rattle.columns.specs.Columns.{column, LayerColumns, PointColumns}
 use Rattle.layers.specs.Digits.{digitsOf}
 use Rattle.layers.specs.E8.{e8, nearest}
 use Rattle.layers.specs.Laws.Entries.{digitsOf-layer}
@@ -16,7 +13,6 @@ use Rattle.layers.specs.Laws.Widths.{layerPoint-small}
 use Rattle.scores.specs.Laws.Inner.{inner-size}
 use Rattle.scores.specs.Laws.Sizes.{dot-sized}
 use Rattle.scores.specs.Scores.{inner}
-use Rattle.tables.specs.Groups.{SizedColumns}
 use Rattle.tables.specs.Tables.{queryMost, layerAt}
 
 module _ (q : ℕ) (q> : 0 < q) (i : ℕ) where
@@ -31,13 +27,6 @@ module _ (q : ℕ) (q> : 0 < q) (i : ℕ) where
   -- as inner products are made
   pub layerAt-small : q ≤ queryMost → Sized 8 (2 ^ 14 - 1) (layerAt q i)
   layerAt-small h = sized-more 8 (2 * q) (layerAt q i) layerAt-sized (2 ^ 14 - 1) (omega arith)
-
--- layer points side by side, as sums with them are made
-pub points-small : (q : ℕ) → 0 < q → q ≤ queryMost → (c : List (List ℕ)) (r : List (List ℤ)) → LayerColumns q c → PointColumns q c r → SizedColumns 8 r
-points-small q q> most c r h p = record {
-  square = p .square;
-  small = λ t l i. let k = layerPoint-small e8 nearest q q> (column 0 t c) (h .each t l) i in omega (arith, subst (λ (e : List ℤ). natAbs («at» e i) ≤ 2 * q) (sym (p .each t l)) k);
-}
 
 -- an entry of the pair table fits 8 bits
 pub pairEntry-small : (i j : ℕ) → natAbs (inner (layerAt 2 i) (layerAt 2 j)) ≤ 32

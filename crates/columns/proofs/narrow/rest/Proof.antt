@@ -16,7 +16,7 @@ use Rattle.rounding.specs.declared.half.Scan.{Scan}
 use Rattle.columns.specs.declared.narrow.Choice as choices
 use Rattle.rounding.specs.declared.point.Choice.{Choice}
 use Rattle.rounding.specs.Laws.Choice.{sign-small, chosen-small}
-use Rattle.columns.specs.Laws.Narrow.{few-divisor, narrow-few, rounds-few, lefts-few, scan-slender, rest-code}
+use Rattle.columns.specs.Laws.Narrow.{few-divisor, narrow-few, rounds-few, lefts-few, scan-part, part-slender, from-first, rest-code}
 use Rattle.rounding.specs.Laws.Reciprocals.{twice-pos}
 use Rattle.rounding.specs.Laws.Scans.{scan-ranged}
 use Rattle.columns.specs.Narrow.{Few, Slender, wide, brief, leftBy}
@@ -52,7 +52,7 @@ module _ (b : tie.Start) where
   A-sized = sized-more 8 (natAbs s) A (lefts-few (b .pre)) 16 (b .pre .most)
 
   slender : Slender s (scanned s 8 F A)
-  slender = scan-slender s few F A (rounds-few (b .pre) .small) (lefts-few (b .pre) .small)
+  slender = subst (Slender s) (from-first s 8 F A) (part-slender s few (scan-part s few (natAbs s) (b .pre .most) F A (rounds-few (b .pre) .small) (lefts-few (b .pre) .small) 0 8 (omega arith) (omega arith)))
 
   C-small : (natAbs (C .parity) ≤ 1) × (C .mend .place < 8) × (natAbs (C .mend .step) ≤ 2)
   C-small = chosen-small s s> d (b .pre .long) (few-divisor few) (scan-ranged s F A (few-divisor few) (λ i. omega (arith, rounds-few (b .pre) .small i)) (lefts-few (b .pre) .small))
@@ -84,7 +84,7 @@ module _ (c : tie.After-rounds) where
   a-sized = subst (Sized 8 16) (sym a-is) (A-sized b₁)
 
 scanned-requires : tie.Need-scanned-requires
-scanned-requires c κs = let r = c .before .before in simp (toZ-ofZ, b₁ r .fits .s) (f-sized r, a-sized r, few (b₁ r))
+scanned-requires c κs = let r = c .before .before in simp (toZ-ofZ, b₁ r .fits .s) (f-sized r, a-sized r, few (b₁ r), omega arith, omega arith)
 
 module _ (c : tie.After-scanned) where
   abbrev made : tie.After-rounds
@@ -94,7 +94,7 @@ module _ (c : tie.After-scanned) where
   b₂ = b₁ made
 
   scan-is : wide (c .scanned .result) ≡ scanned (s b₂) 8 (F b₂) (A b₂)
-  scan-is = (simp (toZ-ofZ, b₂ .fits .s) at (c .scanned .ensures)) ∙ ap₂ (scanned (s b₂) 8) (f-is made) (a-is made)
+  scan-is = (simp (toZ-ofZ, b₂ .fits .s) at (c .scanned .ensures)) ∙ from-first (s b₂) 8 (f made) (a made) ∙ ap₂ (scanned (s b₂) 8) (f-is made) (a-is made)
 
 array-copy-out-sign : tie.Need-array-copy-out-sign
 array-copy-out-sign c = omega arith

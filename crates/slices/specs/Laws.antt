@@ -1,0 +1,11 @@
+-- Proved facts of the slices.
+pub mod Counting
+pub mod Parts
+pub mod Powers
+pub mod Merging
+pub mod Codes
+pub mod Lanes
+pub mod Slices
+pub mod Choices
+pub mod Sums
+pub mod Runs
