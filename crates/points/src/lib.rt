@@ -1,4 +1,4 @@
-// The doubled points of all blocks of a code record, in narrow numbers and lent rows (01, Layers and steps).
+// The doubled points of blocks of a code record, in narrow numbers: eight side by side, or in lent rows (01, Layers and steps).
 ghost use mathlib.Core.Path.{_≡_};
 ghost use mathlib.Core.List.{_++_, map};
 ghost use Prim.Native.Nat.{_+_, _*_, _<_, _≤_};
@@ -65,7 +65,7 @@ fn rows_plus_times(l: &[[i16; 8]; 8], e: &[[i16; 8]; 8], q: i16) -> [[i16; 8]; 8
 }
 
 // The points of n blocks side by side, from the top layer down: each layer's points, and q times what the layers above it gave.
-fn eight_points(body: &[u8], n: usize, q: i16, m: usize) -> [[i16; 8]; 8]
+pub fn eight_points(body: &[u8], n: usize, q: i16, m: usize) -> [[i16; 8]; 8]
     requires { ⌜ Digital q m × AreCodes (natAbs q) m n (now body) × (n ≤ 8) ⌝ }
     ensures { λ r. ⌜ BlockPoints (natAbs q) m n (now (body .entry)) r ⌝ }
 {

@@ -3,6 +3,7 @@ pub mod Totals
 pub mod Inner
 pub mod Layers
 pub mod Sizes
+pub mod Groups
 pub mod Asked
 pub mod Query
 pub mod Pair

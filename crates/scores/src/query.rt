@@ -1,12 +1,14 @@
 // The query score: whole readings against one code record, in halves of 1/1024 squared (01, Scores).
 ghost use mathlib.Core.Path.{_≡_};
+ghost use mathlib.Core.Bool.{cond};
 ghost use mathlib.Core.List.{_++_, map};
 ghost use Prim.Native.Nat.{_*_, _/_, _^_, _≤_};
+ghost use lib.Dec.{eqb};
 ghost use lib.IntN.{natAbs, _*ℤ_};
 ghost use lib.ListN.{length, drop};
 ghost use Rattle.integers.specs.Vectors.{dot, Sized};
 ghost use Rattle.layers.specs.Digits.{cut};
-ghost use Rattle.layers.specs.Table.{TableFor};
+ghost use Rattle.layers.specs.Table.{TableFor, layerTable};
 ghost use Rattle.records.specs.Codes.{Coder, AreBlocks, blockSize, stepOf, wholePoint};
 ghost use Rattle.records.specs.Laws.Asked.{CoderTaken};
 ghost use Rattle.records.specs.Vectors.{unitsHour, fvecsHour, UnitsTaken};
@@ -30,8 +32,8 @@ fn block_query(steps: &[i32], x: &[i32], b: &[u8], e: &[i16; 8]) -> i64
     codes::step_of(steps, b) * inner::point_dot(x, e)
 }
 
-// The sum over k blocks of readings and as many coded ones. Their points are made in the first k of the lent rows; the other rows stay as found.
-pub fn query_total(
+// The sum over k blocks of readings and as many coded ones, whose points are made in the first k of the lent rows: for q = 2, from the table t.
+fn table_total(
     t: &[i8],
     steps: &[i32],
     x: &[i32],
@@ -41,7 +43,7 @@ pub fn query_total(
     k: usize,
     rows: &mut [[i16; 8]; 64],
 ) -> i64
-    requires { ⌜ TableFor (natAbs q) (now t) × Coder q m (now steps) × Sized (8 * k) (2 ^ 24) (now x) × AreBlocks (length (now steps)) (natAbs q) m k (now body) × (k ≤ 64) × (length (now rows) ≡ 64) ⌝ }
+    requires { ⌜ (now t ≡ layerTable) × Coder q m (now steps) × Sized (8 * k) (2 ^ 24) (now x) × AreBlocks (length (now steps)) (natAbs q) m k (now body) × (k ≤ 64) × (length (now rows) ≡ 64) ⌝ }
     ensures answer { λ r. ⌜ r ≡ total (blockQuery (natAbs q) m (now (steps .entry))) (cut 8 k (now (x .entry))) (cut (blockSize m) k (now (body .entry))) ⌝ }
     ensures room { λ _. ⌜ now (rows .exit) ≡ map (wholePoint (natAbs q) m) (cut (blockSize m) k (now (body .entry))) ++ drop k (now (rows .entry)) ⌝ }
 {
@@ -58,6 +60,51 @@ pub fn query_total(
         i = i + 1;
     }
     z
+}
+
+// The same sum by the rule, the points standing eight side by side.
+fn ruled_total(steps: &[i32], x: &[i32], body: &[u8], q: i64, m: usize, k: usize) -> i64
+    requires { ⌜ Coder q m (now steps) × Sized (8 * k) (2 ^ 24) (now x) × AreBlocks (length (now steps)) (natAbs q) m k (now body) × (k ≤ 64) ⌝ }
+    ensures { λ r. ⌜ r ≡ total (blockQuery (natAbs q) m (now (steps .entry))) (cut 8 k (now (x .entry))) (cut (blockSize m) k (now (body .entry))) ⌝ }
+{
+    let n = codes::block_size(m);
+    let mut e: [[i16; 8]; 8] = [[0; 8]; 8];
+    let mut z: i64 = 0;
+    let mut i: usize = 0;
+    while i < k {
+        let from = 8 * i;
+        let to = from + 8;
+        let at = n * i;
+        let end = at + n;
+        if i % 8 == 0 {
+            e = points::eight_points(&body[at..], integers::smaller(8, k - i), q as i16, m);
+        }
+        z = z + codes::step_of(steps, &body[at..end]) * inner::column_dot(&x[from..to], &e, i % 8);
+        i = i + 1;
+    }
+    z
+}
+
+// The sum over k blocks of readings and as many coded ones. For q = 2 the points are made in the first k of the lent rows; all other rows stay as found.
+pub fn query_total(
+    t: &[i8],
+    steps: &[i32],
+    x: &[i32],
+    body: &[u8],
+    q: i64,
+    m: usize,
+    k: usize,
+    rows: &mut [[i16; 8]; 64],
+) -> i64
+    requires { ⌜ TableFor (natAbs q) (now t) × Coder q m (now steps) × Sized (8 * k) (2 ^ 24) (now x) × AreBlocks (length (now steps)) (natAbs q) m k (now body) × (k ≤ 64) × (length (now rows) ≡ 64) ⌝ }
+    ensures answer { λ r. ⌜ r ≡ total (blockQuery (natAbs q) m (now (steps .entry))) (cut 8 k (now (x .entry))) (cut (blockSize m) k (now (body .entry))) ⌝ }
+    ensures room { λ _. ⌜ now (rows .exit) ≡ cond (eqb (natAbs q) 2) (map (wholePoint (natAbs q) m) (cut (blockSize m) k (now (body .entry))) ++ drop k (now (rows .entry))) (now (rows .entry)) ⌝ }
+{
+    if q == 2 {
+        table_total(t, steps, x, body, q, m, k, rows)
+    } else {
+        ruled_total(steps, x, body, q, m, k)
+    }
 }
 
 // The same, having the table itself and the rows, once for all blocks.

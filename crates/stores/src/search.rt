@@ -23,7 +23,7 @@ use refusals::settings::Settings;
 use scores::hours;
 use scores::query;
 
-// The score of readings X with one record: looked up where entries are lent, and else summed from its points, made in the lent rows.
+// The score of readings X with one record: looked up where entries are lent, and else summed from its points, for which the rows are lent.
 fn record_total(
     t: &[i8],
     entries: &[i32],

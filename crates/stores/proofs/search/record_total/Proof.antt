@@ -1,9 +1,11 @@
 -- `record_total` lends what follows the dimension; a good record has as many blocks as X, and over the table of X the looked-up score is the plain one.
 use mathlib.Core.Path.{_≡_, sym, _∙_, ap, ap₂, subst₂}
-use mathlib.Core.List.{List, _++_}
+use mathlib.Core.Bool.{Bool, true, false, cond}
+use mathlib.Core.List.{List, _++_, map}
 use Prim.Native.Nat.{ℕ, _*_, _-_, _/_, _≤_}
 use native.Mathlib.Nat.{mul-div-right}
 use native.Mathlib.Omega.{arith}
+use lib.Dec.{eqb}
 use lib.IntN.{ℤ, natAbs}
 use lib.ListN.{length, take, drop, length-append}
 use mir.Syntax.{w64}
@@ -60,6 +62,14 @@ module _ (s : tie.Start) where
   are-blocks : AreBlocks (length steps) q m k lent
   are-blocks = subst₂ (AreBlocks (length steps) q m) count (sym (rest-whole 4 code)) (s .pre .4 .blocks)
 
+  abbrev found : List (List ℤ)
+  found = s .args .rows .now
+
+  -- the rows keep their number, whether points are made in them or not
+  same-room : (made : Bool) → length (cond made (map (wholePoint q m) (cut (blockSize m) k lent) ++ drop k found) found) ≡ 64
+  same-room true = rows-long (wholePoint q m) (blockSize m) lent found k (omega (arith, s .pre .5, s .pre .6)) ∙ s .pre .6
+  same-room false = s .pre .6
+
 -- where entries are lent, the table of X stands in front
 module _ (c : tie.Else1) where
   abbrev s : tie.Start
@@ -102,7 +112,7 @@ returns c = let s = c .before .before .before .before .before in let f : SFits w
   toZ-ofZ f ∙ (simp (toZ-ofZ, s .fits .q) at (c .query-total .ensures .0))
       ∙ ap₂ (λ (n : ℕ) (f : List ℕ). total (blockQuery (q s) (m s) (steps s)) (cut 8 (k s) (X s)) (cut (blockSize (m s)) n f)) (sym (count s)) (rest-whole 4 (code s))
       ∙ ap (λ (n : ℕ). total (blockQuery (q s) (m s) (steps s)) (cut 8 n (X s)) (cut (blockSize (m s)) (blocksIn (m s) (code s)) (drop 4 (code s)))) (sym (count-x s)),
-  ap length (simp (toZ-ofZ, s .fits .q) at (c .query-total .ensures .1)) ∙ rows-long (wholePoint (q s) (m s)) (blockSize (m s)) (lent s) (s .args .rows .now) (k s) (omega (arith, s .pre .5, s .pre .6)) ∙ s .pre .6,
+  ap length (simp (toZ-ofZ, s .fits .q) at (c .query-total .ensures .1)) ∙ same-room s (eqb (q s) 2),
 )
 
 returns-2 : tie.Need-returns-2
