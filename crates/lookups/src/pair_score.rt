@@ -76,7 +76,7 @@ fn block_pair_by(table: &[i8], steps: &[i32], b: &[u8], steps2: &[i32], b2: &[u8
 }
 
 // The sum over k coded blocks and as many others.
-pub fn pair_total_by(
+fn total_by(
     table: &[i8],
     steps: &[i32],
     body: &[u8],
@@ -98,6 +98,34 @@ pub fn pair_total_by(
         i = i + 1;
     }
     z
+}
+
+// The same with each M as a constant, so that a compiler makes a line of the layers; no layers give 0.
+pub fn pair_total_by(
+    table: &[i8],
+    steps: &[i32],
+    body: &[u8],
+    steps2: &[i32],
+    body2: &[u8],
+    m: usize,
+    k: usize,
+) -> i64
+    requires { ⌜ Coder (pos 2) m (now steps) × Coder (pos 2) m (now steps2) × AreBlocks (length (now steps)) 2 m k (now body) × AreBlocks (length (now steps2)) 2 m k (now body2) × (pairSize ≤ length (now table)) × (k ≤ 64) ⌝ }
+    ensures { λ r. ⌜ r ≡ total (blockPairBy m (now (steps .entry)) (now (steps2 .entry)) (now (table .entry))) (cut (blockSize m) k (now (body .entry))) (cut (blockSize m) k (now (body2 .entry))) ⌝ }
+{
+    if m == 0 {
+        return 0;
+    }
+    if m == 1 {
+        return total_by(table, steps, body, steps2, body2, 1, k);
+    }
+    if m == 2 {
+        return total_by(table, steps, body, steps2, body2, 2, k);
+    }
+    if m == 3 {
+        return total_by(table, steps, body, steps2, body2, 3, k);
+    }
+    total_by(table, steps, body, steps2, body2, 4, k)
 }
 
 // Refusals 1, 2 for the first list and for the second, those of the table, then the first record whole, then the second.

@@ -6,8 +6,9 @@ ghost use lib.ListN.{length};
 ghost use Rattle.layers.specs.Digits.{cut};
 ghost use Rattle.records.specs.Codes.{Coder, IsBlock, AreBlocks, blockSize};
 ghost use Rattle.scores.specs.Scores.{total};
-ghost use Rattle.refusals.specs.Laws.Allowed.{Allowed};
-ghost use Rattle.lookups.specs.Scoring.{blockQueryBy, recordBy, checkQueryBy, queryScoreBy};
+ghost use Rattle.records.specs.Laws.Asked.{CoderTaken};
+ghost use Rattle.refusals.specs.Answers.{valued};
+ghost use Rattle.lookups.specs.Scoring.{blockQueryBy, queryTotalBy, recordBy, queryScoreBy};
 ghost use Rattle.tables.specs.Tables.{queryMost, partSize};
 use layers::lookup;
 use records::asked;
@@ -60,68 +61,86 @@ fn total_by(table: &[i32], steps: &[i32], body: &[u8], q: i64, m: usize, k: usiz
     z
 }
 
-// The same with each q as a constant, so that a compiler makes shifts of the products with it.
+// The same with each q and M as constants, so that a compiler makes shifts of the products with q and a line of the layers; no layers give 0.
 pub fn query_total_by(table: &[i32], steps: &[i32], body: &[u8], q: i64, m: usize, k: usize) -> i64
     requires { ⌜ Coder q m (now steps) × AreBlocks (length (now steps)) (natAbs q) m k (now body) × (natAbs q ≤ queryMost) × (partSize (natAbs q) * k ≤ length (now table)) × (k ≤ 64) ⌝ }
     ensures { λ r. ⌜ r ≡ total (blockQueryBy (natAbs q) m (now (steps .entry))) (cut (partSize (natAbs q)) k (now (table .entry))) (cut (blockSize m) k (now (body .entry))) ⌝ }
 {
+    if m == 0 {
+        return 0;
+    }
     if q == 2 {
-        return total_by(table, steps, body, 2, m, k);
+        if m == 1 {
+            return total_by(table, steps, body, 2, 1, k);
+        }
+        if m == 2 {
+            return total_by(table, steps, body, 2, 2, k);
+        }
+        if m == 3 {
+            return total_by(table, steps, body, 2, 3, k);
+        }
+        return total_by(table, steps, body, 2, 4, k);
     }
     if q == 3 {
-        return total_by(table, steps, body, 3, m, k);
+        if m == 1 {
+            return total_by(table, steps, body, 3, 1, k);
+        }
+        if m == 2 {
+            return total_by(table, steps, body, 3, 2, k);
+        }
+        if m == 3 {
+            return total_by(table, steps, body, 3, 3, k);
+        }
+        return total_by(table, steps, body, 3, 4, k);
     }
-    total_by(table, steps, body, 4, m, k)
+    if m == 1 {
+        return total_by(table, steps, body, 4, 1, k);
+    }
+    if m == 2 {
+        return total_by(table, steps, body, 4, 2, k);
+    }
+    if m == 3 {
+        return total_by(table, steps, body, 4, 3, k);
+    }
+    total_by(table, steps, body, 4, 4, k)
 }
 
-// Of a record and the lent table: refusal 10, 3 where the table is shorter than K·q^8 with the record's K, then 7.
-fn check_record(s: Settings, steps: usize, code: &[u8], room: usize) -> Verdict
-    requires { ⌜ Allowed (s .q) (s .m) × (natAbs (s .q) ≤ queryMost) ⌝ }
-    ensures { λ r. ⌜ r ≡ recordBy steps (natAbs (s .q)) (natAbs (s .m)) (now (code .entry)) room ⌝ }
+// Of a record and the lent table: refusal 10, 3 where the table is shorter than K·q^8 with the record's K, then 7; else its score.
+fn score_record(s: Settings, steps: &[i32], code: &[u8], table: &[i32]) -> Answer
+    requires { ⌜ CoderTaken s (now steps) × (natAbs (s .q) ≤ queryMost) ⌝ }
+    ensures { λ r. ⌜ r ≡ valued (recordBy (length (now (steps .entry))) (natAbs (s .q)) (natAbs (s .m)) (now (code .entry)) (length (now (table .entry)))) (queryTotalBy (natAbs (s .q)) (natAbs (s .m)) (now (steps .entry)) (now (table .entry)) (now (code .entry))) ⌝ }
 {
     let m = settings::layers(s);
     let size = codes::block_size(m);
     if frames::good_record(code, 1, size, 1, frames::BLOCKS_MOST) {
         let k = codes::blocks_in(code, m);
-        match query_table::check_entries(s, k, room) {
-            Verdict::Refused(r) => Verdict::Refused(r),
+        match query_table::check_entries(s, k, table.len()) {
+            Verdict::Refused(r) => refusals::refused(r),
             Verdict::Accepted => {
                 let q = settings::digit_values(s);
-                codes::check_blocks(&code[4..], k, size, steps, q, 0)
+                match codes::check_blocks(&code[4..], k, size, steps.len(), q, 0) {
+                    Verdict::Refused(r) => refusals::refused(r),
+                    Verdict::Accepted => Answer {
+                        verdict: Verdict::Accepted,
+                        value: query_total_by(table, steps, &code[4..], settings::base(s), m, k),
+                    },
+                }
             }
         }
     } else {
-        Verdict::Refused(Refusal::Record(0))
+        refusals::refused(Refusal::Record(0))
     }
 }
 
-// Refusals 1, 2 and 8, then those of the record and the table.
-fn check_query_by(s: Settings, steps: &[i32], code: &[u8], room: usize) -> Verdict
-    ensures { λ r. ⌜ r ≡ checkQueryBy s (now (steps .entry)) (now (code .entry)) room ⌝ }
-{
-    match asked::check_coder(s, steps) {
-        Verdict::Refused(r) => Verdict::Refused(r),
-        Verdict::Accepted => match query_table::check_table(s) {
-            Verdict::Refused(r) => Verdict::Refused(r),
-            Verdict::Accepted => check_record(s, steps.len(), code, room),
-        },
-    }
-}
-
-// The score of a code record by the lent table.
+// The score of a code record by the lent table: refusals 1, 2 and 8, then those of the record and the table.
 pub fn query_score_by_table(s: Settings, steps: &[i32], code: &[u8], table: &[i32]) -> Answer
     ensures answer { λ r. ⌜ r ≡ queryScoreBy s (now (steps .entry)) (now (code .entry)) (now (table .entry)) ⌝ }
 {
-    match check_query_by(s, steps, code, table.len()) {
+    match asked::check_coder(s, steps) {
         Verdict::Refused(r) => refusals::refused(r),
-        Verdict::Accepted => {
-            let q = settings::base(s);
-            let m = settings::layers(s);
-            let k = codes::blocks_in(code, m);
-            Answer {
-                verdict: Verdict::Accepted,
-                value: query_total_by(table, steps, &code[4..], q, m, k),
-            }
-        }
+        Verdict::Accepted => match query_table::check_table(s) {
+            Verdict::Refused(r) => refusals::refused(r),
+            Verdict::Accepted => score_record(s, steps, code, table),
+        },
     }
 }

@@ -9,7 +9,7 @@ use lib.IntN.{ℤ, pos, natAbs}
 use lib.ListN.{length}
 use Rattle.records.specs.Codes.{blockSize, blocksIn, codeBlocks, checkFrame, checkBlocks}
 use Rattle.records.specs.Frames.{wholeBlocks, goodRecord}
-use Rattle.records.specs.Laws.Asked.{CoderTaken, coder-taken, RecordTaken, record-taken}
+use Rattle.records.specs.Laws.Asked.{RecordTaken, record-taken}
 use Rattle.records.specs.Vectors.{Hour, checkReadings, blocksOf}
 use Rattle.refusals.specs.declared.settings.Settings.{Settings}
 use Rattle.refusals.specs.declared.Refusal.the-variants.{Table, Size, Record}
@@ -120,22 +120,6 @@ module _ (c : Settings) (steps : List ℤ) (b : List ℕ) (room : ℕ) where
   unfolding checkQueryBy
   query-by-is v w d e =
       first-append (checkSettings c ∷ checkSteps 0 steps ∷ []) (checkTable queryMost c ∷ rest ∷ []) ∙ ap₂ (λ (v w : Verdict). firstRefusal (v ∷ w ∷ rest ∷ [])) d e
-
-  -- settings for the table, the record, and a table that is long enough
-  pub record QueryByTaken : Type 0 where
-    pub taken : CoderTaken c steps
-    pub most : natAbs (c .q) ≤ queryMost
-    pub code : RecordTaken (length steps) (natAbs (c .q)) (natAbs (c .m)) 1 blocksMost b
-    pub fits : partSize (natAbs (c .q)) * blocksIn (natAbs (c .m)) b ≤ room
-
-  -- an accepted score has them
-  pub query-by-taken : checkQueryBy c steps b room ≡ Accepted → QueryByTaken
-  unfolding checkQueryBy
-  query-by-taken e =
-      let listed : Verdict = checkSteps 0 steps in let table : Verdict = checkTable queryMost c in
-      let s = first-accepted (checkSettings c) (listed ∷ table ∷ rest ∷ []) e in let l = first-accepted listed (table ∷ rest ∷ []) (s .1) in let t = first-accepted table (rest ∷ []) (l .1) in
-      let r = record-by-taken (length steps) (natAbs (c .q)) (natAbs (c .m)) b room (first-accepted rest [] (t .1) .0) in
-      record { taken = coder-taken c 0 steps (s .0) (l .0); most = table-taken queryMost c (t .0); code = r .0; fits = r .1 }
 
 -- ---- a record of exactly K blocks
 

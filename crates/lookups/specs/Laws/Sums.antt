@@ -4,7 +4,7 @@ use mathlib.Core.List.{List, [], _∷_, map}
 use Prim.Native.Nat.{ℕ, zero, suc, _+_, _*_, _-_, _^_, _<_, _≤_}
 use native.Mathlib.Nat.{mul-le-mul, le-refl, le-trans, pow-zero, pow-succ', pow-le-pow-right}
 use native.Mathlib.Omega.{arith}
-use lib.IntN.{ℤ, pos, negsuc, natAbs, _+ℤ_, _*ℤ_}
+use lib.IntN.{ℤ, pos, negsuc, natAbs, _+ℤ_, _*ℤ_, *ℤ-zero}
 use lib.ListN.{length, take, drop, length-map, drop-of-length-le}
 use lib.Seq.{drop-cons}
 use lib.Signed.{mag}
@@ -15,8 +15,11 @@ use Rattle.integers.specs.Vectors.{«at»}
 use Rattle.layers.specs.Digits.{IsLayer, IsLayers, cut}
 use Rattle.layers.specs.Laws.Weights.{layerSum-up}
 use Rattle.layers.specs.Sums.{layerSum, pairSum}
+use Rattle.records.specs.Codes.{stepOf}
 use Rattle.records.specs.Laws.Parts.{cut-long, cut-at}
 use Rattle.refusals.specs.Limits.{mMost}
+use Rattle.scores.specs.Scores.{total}
+use Rattle.lookups.specs.Scoring.{blockPairBy, blockQueryBy}
 
 -- the first of a list, q times the second, q^2 times the third, and so on, together
 abbrev pub powerSum : ℕ → List ℤ → ℤ
@@ -112,7 +115,28 @@ module _ (g : List ℕ → ℤ) (m : ℕ) (ds : List ℕ) where
 pub two-power : (n : ℕ) → n ≤ mMost → 2 ^ n ≤ 2 ^ mMost
 two-power n h = let two : 0 < 2 = omega arith in pow-le-pow-right two h
 
+-- a number of layers that is none of 0 to 3 is the most
+pub last-layers : (m : ℕ) → m ≤ mMost → (m ≡ 0 → ⊥) → (m ≡ 1 → ⊥) → (m ≡ 2 → ⊥) → (m ≡ 3 → ⊥) → m ≡ 4
+last-layers m most f g h k = omega arith
+
 -- a number that was read from n bits, the sign aside, is at most 2^n in magnitude
 pub read-small : (B : ℕ) (x : ℤ) → mag x < B → natAbs x ≤ B
 read-small B (pos n) h = omega arith
 read-small B (negsuc n) h = omega arith
+
+-- ---- blocks of no layers
+
+total-none : {A B : Type 0} (f : A → B → ℤ) → ((x : A) (y : B) → f x y ≡ pos 0) → (k : List A) (l : List B) → total f k l ≡ pos 0
+total-none f h [] l = refl
+total-none f h (x ∷ k) [] = refl
+total-none f h (x ∷ k) (y ∷ l) = ap₂ _+ℤ_ (h x y) (total-none f h k l)
+
+-- they have the score 0 with others
+pub pair-none : (steps steps′ t : List ℤ) (k l : List (List ℕ)) → total (blockPairBy 0 steps steps′ t) k l ≡ pos 0
+unfolding blockPairBy
+pair-none steps steps′ t = total-none (blockPairBy 0 steps steps′ t) (λ b b′. *ℤ-zero (stepOf steps b *ℤ stepOf steps′ b′))
+
+-- and with a query
+pub query-none : (q : ℕ) (steps : List ℤ) (k : List (List ℤ)) (l : List (List ℕ)) → total (blockQueryBy q 0 steps) k l ≡ pos 0
+unfolding blockQueryBy
+query-none q steps = total-none (blockQueryBy q 0 steps) (λ p b. *ℤ-zero (stepOf steps b))

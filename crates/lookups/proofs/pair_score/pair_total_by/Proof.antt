@@ -1,184 +1,71 @@
--- `pair_total_by` adds block after block: after i turns z is the total of the first i, each of which is small whatever the table holds.
-use mathlib.Core.Path.{_≡_, refl, sym, _∙_, ap, ap₂, subst}
-use mathlib.Core.List.{List}
-use Prim.Native.Nat.{ℕ, _+_, _*_, _-_, _^_, _≤_}
-use native.Mathlib.Omega.{arith}
-use lib.IntN.{ℤ, natAbs, _+ℤ_}
-use lib.ListN.{length, take, drop}
+-- `pair_total_by` names M as a constant: 1, 2, 3 or else 4, the most; without layers the total is 0.
+use mathlib.Core.Path.{_≡_, sym, _∙_, ap, subst}
+use Prim.Native.Nat.{ℕ, _≤_}
+use lib.IntN.{ℤ, pos}
+use lib.ListN.{length}
 use mir.Syntax.{w64}
-use mir.Val.{SFits, toZ}
+use mir.Val.{SFits, toZ, ofZ}
 use mir.Facts.{toZ-ofZ}
-use Rattle.integers.specs.Laws.Sizes.{fits-abs, abs-add}
 use Rattle.layers.specs.Digits.{cut}
-use Rattle.records.specs.Codes.{IsBlock, blockSize}
-use Rattle.records.specs.Laws.Parts.{part-ends}
-use Rattle.scores.specs.Laws.Totals.{parts-more}
+use Rattle.records.specs.Codes.{Coder, AreBlocks, blockSize}
 use Rattle.scores.specs.Scores.{total}
+use Rattle.tables.specs.Tables.{pairSize}
+use Rattle.lookups.specs.Laws.Sums.{last-layers, pair-none}
 use Rattle.lookups.specs.Scoring.{blockPairBy}
 use Rattle.lookups.proofs.pair_score.pair_total_by.Statement.{statement}
 use Rattle.lookups.proofs.pair_score.pair_total_by.Tie as tie
 
-abbrev Inv-loop : tie.InvT-loop
-Inv-loop table steps body steps2 body2 m k n z₀ i₀ z i =
-    (i ≤ k) × (toZ w64 z ≡ total (blockPairBy m steps steps2 table) (cut (blockSize m) i body) (cut (blockSize m) i body2)) × (natAbs (toZ w64 z) ≤ i * 2 ^ 35)
-
-abbrev μ-loop : tie.MeasureT-loop
-μ-loop table steps body steps2 body2 m k n z₀ i₀ z i = k - i
-
--- what stands at the loop's test
-module _ (l : tie.At-loop Inv-loop μ-loop) where
-  abbrev s : tie.Start Inv-loop μ-loop
-  s = l .before .before .before .before
-
-  abbrev m : ℕ
-  m = s .args .m
-
-  abbrev k : ℕ
-  k = s .args .k
-
-  abbrev body : List ℕ
-  body = s .args .body .now
-
-  abbrev body′ : List ℕ
-  body′ = s .args .body2 .now
-
-  abbrev i : ℕ
-  i = l .loop .i
-
-  abbrev z : ℤ
-  z = toZ w64 (l .loop .z)
-
-  abbrev n : ℕ
-  n = l .before .block-size .result
-
-  abbrev f : List ℕ → List ℕ → ℤ
-  f = blockPairBy m (s .args .steps .now) (s .args .steps2 .now) (s .args .table .now)
-
+-- the total and what it asks for, by what M is
+module _ (s : tie.Start) where
   abbrev sum : ℕ → ℤ
-  sum j = total f (cut (blockSize m) j body) (cut (blockSize m) j body′)
+  sum m = total (blockPairBy m (s .args .steps .now) (s .args .steps2 .now) (s .args .table .now)) (cut (blockSize m) (s .args .k) (s .args .body .now)) (cut (blockSize m) (s .args .k) (s .args .body2 .now))
 
-  n-is : n ≡ blockSize m
-  n-is = l .before .block-size .ensures
+  abbrev Asked : ℕ → Type 0
+  Asked m = Coder (pos 2) m (s .args .steps .now) × Coder (pos 2) m (s .args .steps2 .now) × AreBlocks (length (s .args .steps .now)) 2 m (s .args .k) (s .args .body .now)
+      × AreBlocks (length (s .args .steps2 .now)) 2 m (s .args .k) (s .args .body2 .now) × (pairSize ≤ length (s .args .table .now)) × (s .args .k ≤ 64)
 
-  abbrev block : List ℕ → List ℕ
-  block g = take (blockSize m) (drop (blockSize m * i) g)
+  -- a call with the constant m is the call with M
+  module _ (m : ℕ) (e : s .args .m ≡ m) where
+    asked : Asked m
+    asked = subst Asked e (s .pre)
 
-  -- block i as it is lent
-  block-is : (g : List ℕ) → take (n * i + n - n * i) (drop (n * i) g) ≡ block g
-  block-is g = let whole : n * i + n - n * i ≡ n = omega arith in ap₂ (λ (j n : ℕ). take j (drop (n * i) g)) (whole ∙ n-is) n-is
+    answered : (r : ℤ) → SFits w64 r → r ≡ sum m → toZ w64 (ofZ w64 r) ≡ sum (s .args .m)
+    answered r fits is = toZ-ofZ fits ∙ is ∙ ap sum (sym e)
 
--- block i
-module _ (c : tie.In-loop Inv-loop μ-loop) where
-  abbrev l : tie.At-loop Inv-loop μ-loop
-  l = c .before
+-- where M is not 0
+abbrev start : tie.Else1 → tie.Start
+start c = c .before .before .before
 
-  ends : (g : List ℕ) → blockSize (m l) * k l ≤ length g → n l * i l + n l ≤ length g
-  ends g h = subst (λ (n : ℕ). n * i l + n ≤ length g) (sym (n-is l)) (omega (arith, part-ends (blockSize (m l)) (i l) (k l) (c .loop-test .taken)))
+-- M is 4
+four : (c : tie.Else4) → start (c .before .before .before) .args .m ≡ 4
+four c = last-layers _ (start (c .before .before .before) .pre .0 .few) (c .before .before .before .if1 .left) (c .before .before .if2 .left) (c .before .if3 .left) (c .if4 .left)
 
-  ends-first : n l * i l + n l ≤ length (body l)
-  ends-first = ends (body l) (s l .pre .2 .long)
+returns : tie.Need-returns
+returns c = let s = c .before .before .before in sym (ap (sum s) (c .if1 .taken) ∙ pair-none (s .args .steps .now) (s .args .steps2 .now) (s .args .table .now) (cut (blockSize 0) (s .args .k) (s .args .body .now)) (cut (blockSize 0) (s .args .k) (s .args .body2 .now)))
 
-  ends-second : n l * i l + n l ≤ length (body′ l)
-  ends-second = ends (body′ l) (s l .pre .3 .long)
+total-by-requires : tie.Need-total-by-requires
+total-by-requires c κs = asked (start (c .before)) 1 (c .if2 .taken)
 
--- it is added
-module _ (c : tie.After-block-pair-by Inv-loop μ-loop) where
-  abbrev b : tie.In-loop Inv-loop μ-loop
-  b = c .before .before .before
+returns-2 : tie.Need-returns-2
+returns-2 c = let b = c .before in answered (start (b .before)) 1 (b .if2 .taken) (c .total-by .result) (record { sfits = c .total-by .ok }) (c .total-by .ensures)
 
-  abbrev t : tie.At-loop Inv-loop μ-loop
-  t = l b
+total-by-requires-2 : tie.Need-total-by-requires-2
+total-by-requires-2 c κs = asked (start (c .before .before)) 2 (c .if3 .taken)
 
-  abbrev y : ℤ
-  y = c .block-pair-by .result
+returns-3 : tie.Need-returns-3
+returns-3 c = let b = c .before in answered (start (b .before .before)) 2 (b .if3 .taken) (c .total-by2 .result) (record { sfits = c .total-by2 .ok }) (c .total-by2 .ensures)
 
-  y-fits : SFits w64 y
-  y-fits = record { sfits = c .block-pair-by .ok }
+total-by-requires-3 : tie.Need-total-by-requires-3
+total-by-requires-3 c κs = asked (start (c .before .before .before)) 3 (c .if4 .taken)
 
-  more-is : z t +ℤ y ≡ sum t (i t + 1)
-  more-is =
-      ap₂ _+ℤ_ (t .loop .inv .1) (c .block-pair-by .ensures .0 ∙ ap₂ (f t) (block-is t (body t)) (block-is t (body′ t)))
-      ∙ sym (parts-more (f t) (blockSize (m t)) (blockSize (m t)) (body t) (body′ t) (i t))
+returns-4 : tie.Need-returns-4
+returns-4 c = let b = c .before in answered (start (b .before .before .before)) 3 (b .if4 .taken) (c .total-by3 .result) (record { sfits = c .total-by3 .ok }) (c .total-by3 .ensures)
 
-  more-small : natAbs (z t +ℤ y) ≤ (i t + 1) * 2 ^ 35
-  more-small = omega (arith, abs-add (z t) y, t .loop .inv .2, c .block-pair-by .ensures .1)
+total-by-requires-4 : tie.Need-total-by-requires-4
+total-by-requires-4 c κs = asked (start (c .before .before .before)) 4 (four c)
 
-  more-fits : SFits w64 (z t +ℤ y)
-  more-fits = fits-abs _ (omega (arith, more-small, s t .pre .5, b .loop-test .taken))
-
-block-size-requires : tie.Need-block-size-requires Inv-loop μ-loop
-block-size-requires c κs = omega (arith, c .before .before .pre .0 .few)
-
-loop-holds : tie.Need-loop-holds Inv-loop μ-loop
-loop-holds c = (omega arith, refl, omega arith)
-
-mul-at : tie.Need-mul-at Inv-loop μ-loop
-mul-at c = omega (arith, ends-first c)
-
-add-end : tie.Need-add-end Inv-loop μ-loop
-add-end c = omega (arith, ends-first c)
-
-sub-block-pair-by : tie.Need-sub-block-pair-by Inv-loop μ-loop
-sub-block-pair-by c = omega arith
-
-part-block-pair-by-start : tie.Need-part-block-pair-by-start Inv-loop μ-loop
-part-block-pair-by-start c = omega arith
-
-part-block-pair-by-end : tie.Need-part-block-pair-by-end Inv-loop μ-loop
-part-block-pair-by-end c = omega (arith, ends-first c)
-
-sub-block-pair-by-2 : tie.Need-sub-block-pair-by-2 Inv-loop μ-loop
-sub-block-pair-by-2 c = omega arith
-
-part-block-pair-by-start-2 : tie.Need-part-block-pair-by-start-2 Inv-loop μ-loop
-part-block-pair-by-start-2 c = omega arith
-
-part-block-pair-by-end-2 : tie.Need-part-block-pair-by-end-2 Inv-loop μ-loop
-part-block-pair-by-end-2 c = omega (arith, ends-second (c .before))
-
-block-pair-by-requires : tie.Need-block-pair-by-requires Inv-loop μ-loop
-block-pair-by-requires c κs = let b = c .before .before in let t = l b in let a = s t .args in (
-  s t .pre .0,
-  s t .pre .1,
-  subst (IsBlock (length (a .steps .now)) 2 (m t)) (sym (block-is t (body t))) (s t .pre .2 .each (i t) (b .loop-test .taken)),
-  subst (IsBlock (length (a .steps2 .now)) 2 (m t)) (sym (block-is t (body′ t))) (s t .pre .3 .each (i t) (b .loop-test .taken)),
-  s t .pre .4,
-)
-
-add-z : tie.Need-add-z Inv-loop μ-loop
-add-z c = simp (toZ-ofZ, y-fits c) (more-fits c)
-
-add-i : tie.Need-add-i Inv-loop μ-loop
-add-i c = omega arith
-
-loop-less : tie.Need-loop-less Inv-loop μ-loop
-loop-less c = omega arith
-
-loop-again : tie.Need-loop-again Inv-loop μ-loop
-loop-again c = simp (toZ-ofZ, y-fits c, more-fits c) (omega arith, more-is c, more-small c)
-
-returns : tie.Need-returns Inv-loop μ-loop
-returns c = let l = c .before in let n : i l ≡ k l = omega arith in l .loop .inv .1 ∙ ap (sum l) n
+returns-5 : tie.Need-returns-5
+returns-5 c = let b = c .before in answered (start (b .before .before .before)) 4 (four b) (c .total-by4 .result) (record { sfits = c .total-by4 .ok }) (c .total-by4 .ensures)
 
 pub pair-total-by-spec : {M : Type 1} → statement M
-pair-total-by-spec =
-    tie.close
-    (tie.spec
-    Inv-loop
-    μ-loop
-    block-size-requires
-    loop-holds
-    mul-at
-    add-end
-    sub-block-pair-by
-    part-block-pair-by-start
-    part-block-pair-by-end
-    sub-block-pair-by-2
-    part-block-pair-by-start-2
-    part-block-pair-by-end-2
-    block-pair-by-requires
-    add-z
-    add-i
-    loop-less
-    loop-again
-    returns)
+pair-total-by-spec = tie.close (tie.spec returns total-by-requires returns-2 total-by-requires-2 returns-3 total-by-requires-3 returns-4 total-by-requires-4 returns-5)
