@@ -197,7 +197,8 @@ ek_hour ek_best_hour(ek_settings settings, const int32_t *steps, size_t steps_le
                      const uint8_t *store, size_t store_len);
 
 /* The same answer by a table that is filled in the lent room and then holds what ek_fill_query_table leaves; for q = 2, 3 and 4.
- * It is the faster way where many records are stored: from some hundreds on for q = 2, a thousand for q = 3, ten thousand for q = 4.
+ * It is the faster way where many records are stored: from some hundreds on for q = 2 and 3, some thousands for q = 4. It takes 26 KB of
+ * stack more.
  * Refuses as ek_best_hour does, and after 2: 8 (place 0) if q is past 4; after the query's 10: 3 (place 2) if table_len is below
  * K q^8. */
 ek_hour ek_best_hour_with_table(ek_settings settings, const int32_t *steps, size_t steps_len, const uint8_t *query,
