@@ -2,3 +2,4 @@
 pub mod Points
 pub mod Lanes
 pub mod LanePoints
+pub mod Folded

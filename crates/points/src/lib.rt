@@ -12,9 +12,21 @@ ghost use Rattle.layers.specs.E8.{decode8};
 ghost use Rattle.layers.specs.Table.{TableFor, layerTable};
 ghost use Rattle.refusals.specs.Limits.{mMost};
 ghost use Rattle.records.specs.Codes.{Digital, AreCodes, blockSize, wholePoint};
-ghost use Rattle.points.specs.Lanes.{Summable, SummableRows, SummedRows, Gathered, BlockPoints};
+ghost use Rattle.points.specs.Lanes.{LayerPut, Gathered, AllGathered, Taken, BlockPoints, Summable, SummableRows, SummedRows, wholeCoordinate, Foldable, FoldableRow, FoldableRows, FoldedRow, FoldedRows};
 use layers::lookup;
 use records::codes;
+
+// The eight digits from the place a on, as the column t.
+fn put_layer(body: &[u8], a: usize, t: usize, c: &mut [[u8; 8]; 8])
+    requires { ⌜ (a + 8 ≤ length (now body)) × (t < 8) × Square8 (now c) ⌝ }
+    ensures { λ _. ⌜ LayerPut t (take 8 (drop a (now (body .entry)))) (now (c .entry)) (now (c .exit)) ⌝ }
+{
+    let mut j: usize = 0;
+    while j < 8 {
+        c[j][t] = body[a + j];
+        j = j + 1;
+    }
+}
 
 // The layer i of n blocks side by side, with zeros past the last.
 fn gathered(body: &[u8], m: usize, i: usize, n: usize) -> [[u8; 8]; 8]
@@ -25,15 +37,42 @@ fn gathered(body: &[u8], m: usize, i: usize, n: usize) -> [[u8; 8]; 8]
     let mut c: [[u8; 8]; 8] = [[0; 8]; 8];
     let mut b: usize = 0;
     while b < n {
-        let at = size * b + (8 * i + 1);
-        let mut j: usize = 0;
-        while j < 8 {
-            c[j][b] = body[at + j];
-            j = j + 1;
+        put_layer(body, size * b + (8 * i + 1), b, &mut c);
+        b = b + 1;
+    }
+    c
+}
+
+// All layers of n blocks side by side, block after block, with zeros past the last.
+fn gathered_layers(body: &[u8], m: usize, n: usize) -> [[u8; 8]; 8]
+    requires { ⌜ (m ≤ mMost) × (n * m ≤ 8) × (blockSize m * n ≤ length (now body)) ⌝ }
+    ensures { λ r. ⌜ AllGathered m n (now (body .entry)) r ⌝ }
+{
+    let size = codes::block_size(m);
+    let mut c: [[u8; 8]; 8] = [[0; 8]; 8];
+    let mut b: usize = 0;
+    while b < n {
+        let mut i: usize = 0;
+        while i < m {
+            let t = m * b + i;
+            put_layer(body, size * b + (8 * i + 1), t, &mut c);
+            i = i + 1;
         }
         b = b + 1;
     }
     c
+}
+
+// The layers that one pass takes: all of them where they are at most eight, else the layer i of each block.
+fn taken(body: &[u8], m: usize, i: usize, n: usize) -> [[u8; 8]; 8]
+    requires { ⌜ (m ≤ mMost) × (i < m) × (n ≤ 8) × (blockSize m * n ≤ length (now body)) ⌝ }
+    ensures { λ r. ⌜ Taken m n i (now (body .entry)) r ⌝ }
+{
+    if n * m <= 8 {
+        gathered_layers(body, m, n)
+    } else {
+        gathered(body, m, i, n)
+    }
 }
 
 // l and q times e.
@@ -64,7 +103,47 @@ fn rows_plus_times(l: &[[i16; 8]; 8], e: &[[i16; 8]; 8], q: i16) -> [[i16; 8]; 8
     r
 }
 
-// The points of n blocks side by side, from the top layer down: each layer's points, and q times what the layers above it gave.
+// One coordinate of a whole point from those of its m layers, which stand in l from t on: from the top one down, each and q times what those above it gave.
+fn whole_coordinate(l: &[i16; 8], t: usize, q: i16, m: usize) -> i16
+    requires { ⌜ Foldable q m t (now l) ⌝ }
+    ensures { λ r. ⌜ r ≡ wholeCoordinate q m t (now (l .entry)) ⌝ }
+{
+    let mut z: i16 = 0;
+    let mut i = m;
+    while i > 0 {
+        i = i - 1;
+        z = l[t + i] + q * z;
+    }
+    z
+}
+
+// One coordinate of n whole points, from those of all their layers, into the first n of the lent row.
+fn fold_row(l: &[i16; 8], n: usize, q: i16, m: usize, r: &mut [i16; 8])
+    requires { ⌜ (n ≤ 8) × FoldableRow q m n (now l) × (length (now r) ≡ 8) ⌝ }
+    ensures { λ _. ⌜ FoldedRow q m n (now (l .entry)) (now (r .exit)) ⌝ }
+{
+    let mut b: usize = 0;
+    while b < n {
+        r[b] = whole_coordinate(l, m * b, q, m);
+        b = b + 1;
+    }
+}
+
+// The same, row by row.
+fn folded(l: &[[i16; 8]; 8], n: usize, q: i16, m: usize) -> [[i16; 8]; 8]
+    requires { ⌜ (n ≤ 8) × FoldableRows q m n (now l) ⌝ }
+    ensures { λ r. ⌜ FoldedRows q m n (now (l .entry)) r ⌝ }
+{
+    let mut e: [[i16; 8]; 8] = [[0; 8]; 8];
+    let mut j: usize = 0;
+    while j < 8 {
+        fold_row(&l[j], n, q, m, &mut e[j]);
+        j = j + 1;
+    }
+    e
+}
+
+// The points of n blocks side by side. Where one pass takes all layers, from their points; else from the top layer down, each layer's points and q times what the layers above it gave.
 pub fn eight_points(body: &[u8], n: usize, q: i16, m: usize) -> [[i16; 8]; 8]
     requires { ⌜ Digital q m × AreCodes (natAbs q) m n (now body) × (n ≤ 8) ⌝ }
     ensures { λ r. ⌜ BlockPoints (natAbs q) m n (now (body .entry)) r ⌝ }
@@ -73,8 +152,11 @@ pub fn eight_points(body: &[u8], n: usize, q: i16, m: usize) -> [[i16; 8]; 8]
     let mut i = m;
     while i > 0 {
         i = i - 1;
-        let c = gathered(body, m, i, n);
+        let c = taken(body, m, i, n);
         let l = columns::layer_points(&c, q);
+        if n * m <= 8 {
+            return folded(&l, n, q, m);
+        }
         e = rows_plus_times(&l, &e, q);
     }
     e

@@ -1,16 +1,15 @@
 -- `rows_plus_times` goes row by row: after j turns the first j are right.
-use mathlib.Core.Path.{_≡_, refl, sym, _∙_, ap}
+use mathlib.Core.Path.{_≡_, refl, _∙_}
 use mathlib.Core.List.{List, []}
 use Prim.Native.Nat.{ℕ, _+_, _-_, _<_, _≤_}
-use native.Mathlib.Decide.{ℕ-discrete}
 use native.Mathlib.Omega.{arith}
 use lib.IntN.{ℤ}
 use lib.ListN.{length, getD, set, length-set}
-use lib.Seq.{getD-set-same, getD-set-other}
 use mir.Syntax.{w16}
 use mir.Val.{toZ}
 use mir.Facts.{toZ-ofZ}
 use Rattle.integers.specs.Vectors.{addV, scaleV}
+use Rattle.points.specs.Laws.Lanes.{each-more}
 use Rattle.points.proofs.rows_plus_times.Statement.{statement}
 use Rattle.points.proofs.rows_plus_times.Tie as tie
 
@@ -48,10 +47,7 @@ module _ (c : tie.After-plus-times Inv-loop μ-loop) where
   before-are = simp (toZ-ofZ, s .fits .q) at (l .loop .inv .2)
 
   more-are : (t : ℕ) → t < j + 1 → getD (set (l .loop .r) j (c .plus-times .result)) t [] ≡ whole t
-  more-are t h = elim (ℕ-discrete t j) [
-    | yes e ↦ ap (λ (k : ℕ). getD (set (l .loop .r) j (c .plus-times .result)) k []) e ∙ getD-set-same (l .loop .r) j (c .plus-times .result) [] (omega (arith, l .loop .inv .1, b .loop-test .taken)) ∙ row-is ∙ ap whole (sym e)
-    | no e ↦ getD-set-other (l .loop .r) j t (c .plus-times .result) [] e ∙ before-are t (omega (arith, e))
-  ]
+  more-are = each-more (λ (t : ℕ) (r : List ℤ). r ≡ whole t) (l .loop .r) j (c .plus-times .result) [] (omega (arith, l .loop .inv .1, b .loop-test .taken)) row-is before-are
 
 loop-holds : tie.Need-loop-holds Inv-loop μ-loop
 loop-holds c = (omega arith, refl, λ t h. absurd (omega arith))

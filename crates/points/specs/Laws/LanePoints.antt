@@ -73,7 +73,8 @@ module _ (q : ℤ) (m : ℕ) (d : Digital q m) (g : List ℕ) (h : IsCode 8 (nat
 -- ---- rows and columns
 
 module _ (t : ℕ) (ht : t < 8) (j : ℕ) (hj : j < 8) where
-  cell : (c : List (List ℤ)) → length c ≡ 8 → «at» (column (pos 0) t c) j ≡ «at» (getD c j []) t
+  -- the entry j of the column t
+  pub cell : (c : List (List ℤ)) → length c ≡ 8 → «at» (column (pos 0) t c) j ≡ «at» (getD c j []) t
   cell c h = map-at (λ (row : List ℤ). «at» row t) c j [] (pos 0) (omega arith)
 
 -- what is summable column by column is so row by row

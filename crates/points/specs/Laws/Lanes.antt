@@ -1,5 +1,6 @@
 -- Eight blocks side by side: how a loop lays their digits column by column, that every column is a code, and how columns are written to rows.
 use mathlib.Core.Path.{_≡_, refl, sym, _∙_, ap, ap₂, subst}
+use mathlib.Core.Logic.{_≢_}
 use mathlib.Core.Bool.{Bool, cond}
 use mathlib.Core.List.{List, [], _∷_, _++_, map, map-id, map-append, append-nil, append-assoc}
 use Prim.Native.Nat.{ℕ, zero, suc, _+_, _*_, _-_, _<_, _≤_}
@@ -8,15 +9,41 @@ use native.Mathlib.Numerals.{add-one}
 use native.Mathlib.Omega.{arith}
 use borrow.Author.Tests.{lt-ltb, le-ltb}
 use lib.ListN.{length, getD, take, drop, set, replicate, length-append, length-take, length-drop, length-replicate, length-map, getD-replicate, take-append-drop, replicate-append-replicate}
-use lib.Seq.{take-nil, take-at, take-take, drop-at, drop-drop, drop-cons, set-at, append-snoc, getD-set-other, map-set-same}
+use lib.Seq.{take-nil, take-at, take-take, drop-at, drop-drop, drop-cons, set-at, append-snoc, getD-set-same, getD-set-other}
 use Rattle.integers.specs.Laws.Loops.{Filled, filled-more, filled-all, range, range-long}
 use Rattle.columns.specs.Columns.{column, Square8}
 use Rattle.layers.specs.Digits.{IsCode}
-use Rattle.columns.specs.Laws.Columns.{put-square, put-here}
+use Rattle.columns.specs.Laws.Columns.{put-square, put-here, put-other}
 use Rattle.layers.specs.Laws.Rows.{below-all}
 use Rattle.records.specs.Codes.{AreCodes, blockSize}
-use Rattle.points.specs.Lanes.{blockAt, laneDigits, Gathered}
+use Rattle.points.specs.Lanes.{blockAt, laneDigits, LayerPut, Gathered}
 use Rattle.points.specs.Laws.Points.{digits-part}
+
+-- ---- a loop puts eight digits as a column
+
+-- a column that is written from the first row on: so far the first j entries, and no other column
+pub record Putting (t : ℕ) (ds : List ℕ) (o : List (List ℕ)) (j : ℕ) (c : List (List ℕ)) : Type 0 where
+  pub square : Square8 c
+  pub filled : Filled (λ (x : ℕ). x) 8 ds j (column 0 t c)
+  pub others : (u : ℕ) → u ≢ t → column 0 u c ≡ column 0 u o
+
+module _ (t : ℕ) (t< : t < 8) (ds : List ℕ) (long : length ds ≡ 8) (o : List (List ℕ)) where
+  -- none yet
+  pub putting-none : Square8 o → Putting t ds o 0 o
+  putting-none h = record { square = h; filled = record { within = omega arith; long = length-map o _ ∙ h .long; same = refl }; others = λ u ne. refl }
+
+  module _ (j : ℕ) (c : List (List ℕ)) (p : Putting t ds o j c) where
+    -- one more
+    pub putting-more : (z : ℕ) → z ≡ getD ds j 0 → j < 8 → Putting t ds o (j + 1) (set c j (set (getD c j []) t z))
+    putting-more z e h = record {
+      square = put-square 0 c (p .square) j t h t< z;
+      filled = subst (Filled (λ (x : ℕ). x) 8 ds (j + 1)) (sym (put-here 0 c (p .square) j t h t< z)) (filled-more (λ (x : ℕ). x) 8 ds long 0 z e h (p .filled));
+      others = λ u ne. put-other 0 c (p .square) j t h t< z u ne ∙ p .others u ne;
+    }
+
+    -- all
+    pub putting-all : 8 ≤ j → LayerPut t ds o c
+    putting-all h = record { square = p .square; put = filled-all (λ (x : ℕ). x) 8 ds long h (p .filled) ∙ map-id ds; others = p .others }
 
 -- ---- a loop lays s 0, s 1 and so on, each of eight entries, side by side over zeros
 
@@ -25,13 +52,6 @@ pub record Laid (s : ℕ → List ℕ) (b : ℕ) (c : List (List ℕ)) : Type 0 
   pub square : Square8 c
   pub done : (t : ℕ) → t < b → column 0 t c ≡ s t
   pub left : (t : ℕ) → b ≤ t → t < 8 → column 0 t c ≡ replicate 8 0
-
--- and the first j entries of the next
-pub record Laying (s : ℕ → List ℕ) (b j : ℕ) (c : List (List ℕ)) : Type 0 where
-  pub square : Square8 c
-  pub done : (t : ℕ) → t < b → column 0 t c ≡ s t
-  pub filled : Filled (λ (x : ℕ). x) 8 (s b) j (column 0 b c)
-  pub left : (t : ℕ) → b < t → t < 8 → column 0 t c ≡ replicate 8 0
 
 abbrev blank : List ℕ
 blank = replicate 8 0
@@ -47,35 +67,16 @@ laid-none s = record { square = record { long = refl; rows = λ j h. ap length (
     none (suc n) zero = refl
     none (suc n) (suc t) = none n t
 
-module _ (s : ℕ → List ℕ) (b : ℕ) (hb : b < 8) (long : length (s b) ≡ 8) where
-  pub laying-none : {c : List (List ℕ)} → Laid s b c → Laying s b 0 c
-  laying-none {c} h = record {
-    square = h .square;
-    done = h .done;
-    filled = record { within = omega arith; long = length-map c _ ∙ h .square .long; same = refl };
-    left = λ t l k. h .left t (omega arith) k;
-  }
-
-  pub laying-more : {j : ℕ} {c : List (List ℕ)} (z : ℕ) → z ≡ getD (s b) j 0 → j < 8 → Laying s b j c → Laying s b (j + 1) (set c j (set (getD c j []) b z))
-  laying-more {j} {c} z e hj h =
-      let other : (t : ℕ) → (t ≡ b → ⊥) → column 0 t (set c j (set (getD c j []) b z)) ≡ column 0 t c
-      = λ t n. map-set-same (λ (row : List ℕ). getD row t 0) c j (set (getD c j []) b z) [] (getD-set-other (getD c j []) b t z 0 n) in
-      record {
-        square = put-square 0 c (h .square) j b hj hb z;
-        done = λ t l. other t (λ i. absurd (omega (arith, i))) ∙ h .done t l;
-        filled = subst (Filled (λ (x : ℕ). x) 8 (s b) (j + 1)) (sym (put-here 0 c (h .square) j b hj hb z)) (filled-more (λ (x : ℕ). x) 8 (s b) long 0 z e hj (h .filled));
-        left = λ t l k. other t (λ i. absurd (omega (arith, i))) ∙ h .left t l k;
-      }
-
-  pub laid-more : {j : ℕ} {c : List (List ℕ)} → 8 ≤ j → Laying s b j c → Laid s (b + 1) c
-  laid-more {j} {c} hj h = record {
-    square = h .square;
-    done = λ t l. elim (ℕ-discrete t b) [
-      | yes i ↦ ap (λ (k : ℕ). column 0 k c) i ∙ filled-all (λ (x : ℕ). x) 8 (s b) long hj (h .filled) ∙ map-id (s b) ∙ ap s (sym i)
-      | no i ↦ h .done t (omega (arith, i))
-    ];
-    left = λ t l k. h .left t (omega arith) k;
-  }
+-- one more
+pub laid-more : (s : ℕ → List ℕ) (b : ℕ) {ds : List ℕ} {c c′ : List (List ℕ)} → ds ≡ s b → Laid s b c → LayerPut b ds c c′ → Laid s (b + 1) c′
+laid-more s b {ds} {c} {c′} e h p = record {
+  square = p .square;
+  done = λ t l. elim (ℕ-discrete t b) [
+    | yes i ↦ ap (λ (k : ℕ). column 0 k c′) i ∙ p .put ∙ e ∙ ap s (sym i)
+    | no i ↦ p .others t i ∙ h .done t (omega (arith, i))
+  ];
+  left = λ t l k. p .others t (λ i. absurd (omega (arith, i))) ∙ h .left t (omega arith) k;
+}
 
 -- ---- the columns as codes
 
@@ -85,6 +86,16 @@ part-of zero b n l h = take-take n b l (omega arith)
 part-of {A} (suc a) b n [] h = ap (λ (l : List A). take n (drop (suc a) l)) (take-nil b)
 part-of (suc a) zero n (x ∷ l) h = absurd (omega arith)
 part-of (suc a) (suc b) n (x ∷ l) h = part-of a b n l (omega arith)
+
+-- the layer i of block b, where it stands
+abbrev pub layerAt : ℕ → List ℕ → ℕ → ℕ → List ℕ
+layerAt m f b i = take 8 (drop (blockSize m * b + (8 * i + 1)) f)
+
+pub block-layer : (m : ℕ) (f : List ℕ) (b i : ℕ) → i < m → take 8 (drop (8 * i) (drop 1 (blockAt m f b))) ≡ layerAt m f b i
+block-layer m f b i l = let a : ℕ = blockSize m * b in let e : a + 1 + 8 * i ≡ a + (8 * i + 1) = omega arith in
+    ap (λ (g : List ℕ). take 8 (drop (8 * i) g)) (digits-part m a f)
+    ∙ part-of (8 * i) (8 * m) 8 (drop (a + 1) f) (omega arith)
+    ∙ ap (take 8) (drop-drop (8 * i) (a + 1) f ∙ ap (λ (j : ℕ). drop j f) e)
 
 module _ (m n : ℕ) (f : List ℕ) (t : ℕ) where
   abbrev digits : List ℕ
@@ -99,11 +110,8 @@ module _ (m n : ℕ) (f : List ℕ) (t : ℕ) where
 
   -- their layers
   module _ (i : ℕ) (l : i < m) where
-    layer-here : t < n → take 8 (drop (8 * i) digits) ≡ take 8 (drop (blockSize m * t + (8 * i + 1)) f)
-    layer-here h = let a : ℕ = blockSize m * t in let e : a + 1 + 8 * i ≡ a + (8 * i + 1) = omega arith in
-        ap (λ (g : List ℕ). take 8 (drop (8 * i) g)) (lane-here h ∙ digits-part m a f)
-        ∙ part-of (8 * i) (8 * m) 8 (drop (a + 1) f) (omega arith)
-        ∙ ap (take 8) (drop-drop (8 * i) (a + 1) f ∙ ap (λ (j : ℕ). drop j f) e)
+    layer-here : t < n → take 8 (drop (8 * i) digits) ≡ layerAt m f t i
+    layer-here h = ap (λ (g : List ℕ). take 8 (drop (8 * i) g)) (lane-here h) ∙ block-layer m f t i l
 
     layer-none : n ≤ t → take 8 (drop (8 * i) digits) ≡ replicate 8 0
     layer-none h =
@@ -123,7 +131,7 @@ module _ (m n : ℕ) (f : List ℕ) (t : ℕ) where
   ]
 
 -- layer i of n blocks, laid side by side
-pub laid-gathered : (m n : ℕ) (f : List ℕ) (i : ℕ) → i < m → {c : List (List ℕ)} → Laid (λ (t : ℕ). take 8 (drop (blockSize m * t + (8 * i + 1)) f)) n c → Gathered m n i f c
+pub laid-gathered : (m n : ℕ) (f : List ℕ) (i : ℕ) → i < m → {c : List (List ℕ)} → Laid (λ (b : ℕ). layerAt m f b i) n c → Gathered m n i f c
 laid-gathered m n f i l {c} h = record {
   square = h .square;
   each = λ t k. elim (decLe n t) [
@@ -131,6 +139,14 @@ laid-gathered m n f i l {c} h = record {
     | no g ↦ let here : t < n = omega arith in h .done t here ∙ sym (layer-here m n f t i l here)
   ];
 }
+
+-- ---- a loop writes entry after entry: those so far are as they should be
+
+pub each-more : {A : Type 0} (P : ℕ → A → Type 0) (r : List A) (j : ℕ) (x d : A) → j < length r → P j x → ((t : ℕ) → t < j → P t (getD r t d)) → (t : ℕ) → t < j + 1 → P t (getD (set r j x) t d)
+each-more {A} P r j x d h p g t l = elim (ℕ-discrete t j) [
+  | yes e ↦ subst (λ (k : ℕ). P k (getD (set r j x) k d)) (sym e) (subst (P j) (sym (getD-set-same r j x d h)) p)
+  | no e ↦ subst (P t) (sym (getD-set-other r j t x d e)) (g t (omega (arith, e)))
+]
 
 -- ---- a loop writes g 0, g 1 and so on over the rows from i on
 
