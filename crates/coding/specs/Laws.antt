@@ -1,2 +1,3 @@
--- Proved facts of what is asked for.
+-- Proved facts of what is asked for, and of counting.
 pub mod Asked
+pub mod Counting

@@ -1,3 +1,4 @@
 -- A point coded and decoded by itself. Definitions stand here; `Laws` holds what is proved of them.
 pub mod Answers
+pub mod Counting
 pub mod Laws

@@ -1,5 +1,6 @@
 // A point of E8 coded and decoded by itself (01, Layers and steps).
 pub mod asked;
+pub mod counting;
 
 ghost use mathlib.Core.Path.{_≡_};
 ghost use lib.ListN.{length};

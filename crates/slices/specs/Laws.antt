@@ -1,5 +1,4 @@
 -- Proved facts of the slices.
-pub mod Counting
 pub mod Parts
 pub mod Powers
 pub mod Merging

@@ -1,5 +1,4 @@
 -- Slices of the query table. Definitions stand here; `Laws` holds what is proved of them.
-pub mod Counting
 pub mod Slices
 pub mod Lanes
 pub mod Sums

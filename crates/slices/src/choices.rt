@@ -10,7 +10,7 @@ ghost use Rattle.layers.specs.Sizes.{Base};
 ghost use Rattle.rounding.specs.Pass.{chosen};
 ghost use Rattle.slices.specs.Lanes.{laneOf, scanOf, Whole, LanePut, Lows, Lanes, Run, RunPut};
 ghost use Rattle.slices.specs.Slices.{Slice, roundsOf, restsOf, lowDigits, highDigits, merge, codeOf};
-use crate::counting;
+use coding::counting;
 use columns::narrow;
 use columns::narrow::Scan;
 

@@ -10,6 +10,7 @@ ghost use Rattle.refusals.specs.Laws.Allowed.{Allowed};
 ghost use Rattle.refusals.specs.Verdicts.{firstRefusal};
 ghost use Rattle.tables.specs.Filling.{checkTable, checkEntries, checkPairTable, pairFilled, pairTableRoom};
 ghost use Rattle.tables.specs.Tables.{pairMost, pairSize, pairRow, pairTable};
+use coding::counting;
 use layers::lookup;
 use layers::table;
 use refusals::Answer;
@@ -18,7 +19,6 @@ use refusals::Verdict;
 use refusals::settings;
 use refusals::settings::Settings;
 use scores::inner;
-use slices::counting;
 
 // The greatest q that the table is for, and its entries.
 const PAIR_MOST: usize = 2;

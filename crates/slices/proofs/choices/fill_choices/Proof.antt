@@ -20,10 +20,10 @@ use Rattle.layers.specs.Digits.{IsLayer, digitsOf}
 use Rattle.layers.specs.Laws.Bases.{base-two}
 use Rattle.layers.specs.Laws.Entries.{digitsOf-layer, squared}
 use Rattle.rounding.specs.declared.half.Scan.{Scan}
-use Rattle.slices.specs.Counting.{countedUp}
+use Rattle.coding.specs.Counting.{countedUp}
 use Rattle.slices.specs.Lanes.{Lane, Lanes, highAt, scanAt, Lows, RunPut}
 use Rattle.slices.specs.Laws.Choices.{Chosen, chosen-none, chosen-more, chosen-all}
-use Rattle.slices.specs.Laws.Counting.{digits-zero, counted-next}
+use Rattle.coding.specs.Laws.Counting.{digits-zero, counted-next}
 use Rattle.slices.specs.Laws.Lanes.{grid-same, base-few, rounds-sized, rests-sized, high-layer, lane-at, scan-at, last-five}
 use Rattle.slices.specs.Laws.Powers.{runSize, rowCount, size-few, rows-few, slice-few, run-room, digit-room, low-within}
 use Rattle.slices.specs.Slices.{roundsOf, restsOf, highDigits}

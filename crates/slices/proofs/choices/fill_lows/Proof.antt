@@ -19,9 +19,9 @@ use Rattle.layers.specs.Digits.{IsLayer, digitsOf}
 use Rattle.layers.specs.Laws.Bases.{base-two}
 use Rattle.layers.specs.Laws.Entries.{digitsOf-layer}
 use Rattle.rounding.specs.Rounding.{sign}
-use Rattle.slices.specs.Counting.{countedUp}
+use Rattle.coding.specs.Counting.{countedUp}
 use Rattle.slices.specs.Lanes.{laneOf, lowAt, laneAt, Lows}
-use Rattle.slices.specs.Laws.Counting.{digits-zero, counted-next}
+use Rattle.coding.specs.Laws.Counting.{digits-zero, counted-next}
 use Rattle.slices.specs.Laws.Lanes.{base-few, rounds-sized, rests-sized, digits-part, part-any, low-layer, first-three, lows-none, lows-more}
 use Rattle.slices.specs.Slices.{roundsOf, restsOf, lowDigits}
 use Rattle.slices.proofs.choices.fill_lows.Statement.{statement}

@@ -17,10 +17,10 @@ use Rattle.layers.specs.E8.{layerPoint8}
 use Rattle.layers.specs.Laws.Entries.{digitsOf-layer}
 use Rattle.layers.specs.Laws.Loops.{write-next}
 use Rattle.scores.specs.Scores.{inner}
-use Rattle.slices.specs.Laws.Counting.{digits-zero, counted-next}
+use Rattle.coding.specs.Laws.Counting.{digits-zero, counted-next}
 use Rattle.tables.specs.Laws.Entries.{layerAt-entry, pairRow-long, pairRow-at}
 use Rattle.tables.specs.Laws.Sizes.{layerAt-small, pairEntry-small}
-use Rattle.slices.specs.Counting.{countedUp}
+use Rattle.coding.specs.Counting.{countedUp}
 use Rattle.tables.specs.Tables.{layerAt, pairRow}
 use Rattle.tables.proofs.pair_table.fill_row.Statement.{statement}
 use Rattle.tables.proofs.pair_table.fill_row.Tie as tie

@@ -12,9 +12,9 @@ use Rattle.layers.specs.E8.{layerPoint8}
 use Rattle.layers.specs.Laws.Entries.{digitsOf-layer}
 use Rattle.layers.specs.Laws.Loops.{write-in}
 use Rattle.records.specs.Laws.Parts.{front-long}
-use Rattle.slices.specs.Laws.Counting.{digits-zero, counted-next}
+use Rattle.coding.specs.Laws.Counting.{digits-zero, counted-next}
 use Rattle.tables.specs.Laws.Entries.{pairRows, rows-more, rows-all}
-use Rattle.slices.specs.Counting.{countedUp}
+use Rattle.coding.specs.Counting.{countedUp}
 use Rattle.tables.specs.Tables.{layerAt, pairRow}
 use Rattle.tables.proofs.pair_table.fill_rows.Statement.{statement}
 use Rattle.tables.proofs.pair_table.fill_rows.Tie as tie

@@ -10,7 +10,7 @@ use lib.Dec.{ltb}
 use lib.ListN.{length, getD, take, drop, set, replicate, length-set, drop-of-length-le}
 use lib.Seq.{take-all, drop-cons, append-snoc, set-split, drop-set-lt, take-suc-set}
 use Rattle.layers.specs.Digits.{Below, digitsOf}
-use Rattle.slices.specs.Counting.{countedUp}
+use Rattle.coding.specs.Counting.{countedUp}
 
 -- the digits of 0
 pub digits-zero : (q n : ℕ) → digitsOf q n 0 ≡ replicate n 0

@@ -6,9 +6,9 @@ use Prim.Native.Nat.{ℕ, _-_, _<_, _≤_}
 use native.Mathlib.Numerals.{add-one}
 use native.Mathlib.Omega.{arith}
 use lib.ListN.{length, getD, length-set}
-use Rattle.slices.specs.Laws.Counting.{Carrying, carrying-digit, carrying-up, carrying-on, carrying-done}
-use Rattle.slices.proofs.counting.count_up.Statement.{statement}
-use Rattle.slices.proofs.counting.count_up.Tie as tie
+use Rattle.coding.specs.Laws.Counting.{Carrying, carrying-digit, carrying-up, carrying-on, carrying-done}
+use Rattle.coding.proofs.counting.count_up.Statement.{statement}
+use Rattle.coding.proofs.counting.count_up.Tie as tie
 
 abbrev Inv-loop : tie.InvT-loop
 Inv-loop ds₀ q k₀ ds k = (k ≤ length ds₀) × Carrying q ds₀ k ds

@@ -1,7 +1,7 @@
 // Digits counted up, from one entry number to the next.
 ghost use mathlib.Core.Path.{_≡_};
 ghost use Rattle.layers.specs.Digits.{Below};
-ghost use Rattle.slices.specs.Counting.{countedUp};
+ghost use Rattle.coding.specs.Counting.{countedUp};
 
 // The digits of the next entry number, in place of those of one; after the last comes the first.
 pub fn count_up(ds: &mut [u8], q: u8)
