@@ -19,7 +19,7 @@ use Rattle.refusals.specs.Limits.{blocksMost}
 use Rattle.refusals.specs.Settings.{checkSettings}
 use Rattle.refusals.specs.Steps.{checkSteps}
 use Rattle.refusals.specs.Verdicts.{unless, firstRefusal}
-use Rattle.records.specs.Codes.{blockSize, blocksIn, codeBlocks, stepOf, wholePoint, checkFrame, checkBlocks}
+use Rattle.records.specs.Eight.Codes.{blockSize, blocksIn, codeBlocks, stepOf, wholePoint, checkFrame, checkBlocks}
 
 -- a decoded reading s·e / 2048 as the four bytes of its binary32 pattern
 abbrev pub readingBytes : ℤ → ℤ → List ℕ

@@ -6,7 +6,7 @@ ghost use lib.IntN.{natAbs};
 ghost use lib.ListN.{length, drop};
 ghost use Rattle.layers.specs.Digits.{joined, cut};
 ghost use Rattle.layers.specs.Table.{TableFor};
-ghost use Rattle.records.specs.Codes.{Coder, AreBlocks, blockSize, blocksIn, codeBlocks};
+ghost use Rattle.records.specs.Eight.Codes.{Coder, AreBlocks, blockSize, blocksIn, codeBlocks};
 ghost use Rattle.decoding.specs.Decode.{Readable, readingBytes, decodedBytes, fvecsLength, decodedRecord, checkDecode, decoded, decodedRoom};
 use layers::table;
 use readings::words;

@@ -1,7 +1,7 @@
 // From readings to codes: an hour as an fvecs record or as whole units, over one core on X (01, Layers and steps; Bytes).
 ghost use mathlib.Core.Path.{_≡_};
 ghost use mathlib.Core.List.{[], _∷_, _++_};
-ghost use Prim.Native.Nat.{_*_, _/_, _^_, _≤_};
+ghost use Prim.Native.Nat.{_+_, _*_, _/_, _^_, _≤_};
 ghost use lib.Dec.{leb};
 ghost use lib.IntN.{pos, natAbs};
 ghost use lib.ListN.{length, take, drop};
@@ -13,7 +13,8 @@ ghost use Rattle.refusals.specs.declared.Verdict.the-variants.{Accepted};
 ghost use Rattle.refusals.specs.declared.Refusal.the-variants.{Size};
 ghost use Rattle.refusals.specs.Answers.{valued, written};
 ghost use Rattle.refusals.specs.Verdicts.{unless, firstRefusal};
-ghost use Rattle.records.specs.Codes.{Coder, blockSize, codeLength};
+ghost use Rattle.records.specs.Code.{code8, sizeOf, codeOf};
+ghost use Rattle.records.specs.Codes.{Coder, blockBytes, codeLength};
 ghost use Rattle.encoding.specs.Encode.{checkFits, codeBytes, codeRecord, encodeAsked, encoded, encodedRoom};
 ghost use Rattle.records.specs.Vectors.{unitsHour, fvecsHour, checkReadings, inBlocks, UnitsTaken};
 use readings::words;
@@ -34,9 +35,9 @@ const BYTES_MOST: usize = 2112;
 
 // Codes each of k blocks into its own part of the lent bytes; refusal 6 at the first that no listed step fits.
 fn code_blocks(x: &[i32], steps: &[i32], q: i64, m: usize, k: usize, out: &mut [u8]) -> Verdict
-    requires { ⌜ Sized (8 * k) (2 ^ 24) (now x) × UsedSteps (now steps) × Base q × (m ≤ 256) × (natAbs q ^ m ≤ longPower) × (blockSize m * k ≤ length (now out)) ⌝ }
-    ensures answer { λ r. ⌜ r ≡ checkFits (natAbs q) m (now (steps .entry)) 0 (cut 8 k (now (x .entry))) ⌝ }
-    ensures room { λ r. ⌜ (r ≡ Accepted → now (out .exit) ≡ codeBytes (natAbs q) m (now (steps .entry)) (cut 8 k (now (x .entry))) ++ drop (blockSize m * k) (now (out .entry))) ⌝ }
+    requires { ⌜ Sized (8 * k) (2 ^ 24) (now x) × UsedSteps (now steps) × Base q × (m ≤ 256) × (natAbs q ^ m ≤ longPower) × (blockBytes 8 m * k ≤ length (now out)) ⌝ }
+    ensures answer { λ r. ⌜ r ≡ checkFits (code8 (natAbs q) m) (now (steps .entry)) 0 (cut 8 k (now (x .entry))) ⌝ }
+    ensures room { λ r. ⌜ (r ≡ Accepted → now (out .exit) ≡ codeBytes (code8 (natAbs q) m) (now (steps .entry)) (cut 8 k (now (x .entry))) ++ drop (blockBytes 8 m * k) (now (out .entry))) ⌝ }
 {
     let n = codes::block_size(m);
     let mut i: usize = 0;
@@ -81,9 +82,9 @@ fn put_blocks(code: &[u8], n: usize, k: usize, out: &mut [u8])
 
 // The core on X: k blocks coded, then their record at the front of the lent bytes; refusal 6 where a block has no step that fits.
 fn put_record(x: &[i32], steps: &[i32], q: i64, m: usize, out: &mut [u8]) -> Answer
-    requires { ⌜ Coder q m (now steps) × UnitsTaken (now x) × (codeLength m (length (now x) / 8) ≤ length (now out)) ⌝ }
-    ensures answer { λ r. ⌜ r ≡ valued (checkFits (natAbs q) m (now (steps .entry)) 0 (inBlocks (now (x .entry)))) (pos (codeLength m (length (now (x .entry)) / 8))) ⌝ }
-    ensures room { λ _. ⌜ now (out .exit) ≡ written (checkFits (natAbs q) m (now (steps .entry)) 0 (inBlocks (now (x .entry)))) (codeRecord (natAbs q) m (now (steps .entry)) (inBlocks (now (x .entry)))) (now (out .entry)) ⌝ }
+    requires { ⌜ Coder q m (now steps) × UnitsTaken 8 (now x) × (codeLength (code8 (natAbs q) m) (length (now x) / 8) ≤ length (now out)) ⌝ }
+    ensures answer { λ r. ⌜ r ≡ valued (checkFits (code8 (natAbs q) m) (now (steps .entry)) 0 (inBlocks 8 (now (x .entry)))) (pos (codeLength (code8 (natAbs q) m) (length (now (x .entry)) / 8))) ⌝ }
+    ensures room { λ _. ⌜ now (out .exit) ≡ written (checkFits (code8 (natAbs q) m) (now (steps .entry)) 0 (inBlocks 8 (now (x .entry)))) (codeRecord (code8 (natAbs q) m) (now (steps .entry)) (inBlocks 8 (now (x .entry)))) (now (out .entry)) ⌝ }
 {
     let k = x.len() / 8;
     let mut code: [u8; BYTES_MOST] = [0; BYTES_MOST];
@@ -104,7 +105,7 @@ fn put_record(x: &[i32], steps: &[i32], q: i64, m: usize, out: &mut [u8]) -> Ans
 // Refusal 3 where the room is under 4 + K (8 M + 1) bytes.
 fn check_room(m: usize, k: usize, room: usize) -> Verdict
     requires { ⌜ (m ≤ 256) × (k ≤ 2 ^ 32) ⌝ }
-    ensures { λ r. ⌜ r ≡ unless (leb (codeLength m k) room) (Size 1) ⌝ }
+    ensures { λ r. ⌜ r ≡ unless (leb (4 + blockBytes 8 m * k) room) (Size 1) ⌝ }
 {
     if 4 + codes::block_size(m) * k <= room {
         Verdict::Accepted
@@ -115,7 +116,7 @@ fn check_room(m: usize, k: usize, room: usize) -> Verdict
 
 // All that is checked of an hour in whole units before it is coded: refusals 1, 2, 3 and 4 or 5.
 fn check_units_hour(s: Settings, steps: &[i32], x: &[i32], room: usize) -> Verdict
-    ensures { λ r. ⌜ r ≡ firstRefusal (encodeAsked s (now (steps .entry)) (unitsHour (now (x .entry))) room ∷ checkReadings 0 (unitsHour (now (x .entry)) .readings) ∷ []) ⌝ }
+    ensures { λ r. ⌜ r ≡ firstRefusal (encodeAsked (codeOf s) s (now (steps .entry)) (unitsHour (sizeOf (codeOf s)) (now (x .entry))) room ∷ checkReadings 0 (unitsHour (sizeOf (codeOf s)) (now (x .entry)) .readings) ∷ []) ⌝ }
 {
     match asked::check_coder(s, steps) {
         Verdict::Refused(r) => Verdict::Refused(r),
@@ -134,7 +135,7 @@ fn check_units_hour(s: Settings, steps: &[i32], x: &[i32], room: usize) -> Verdi
 
 // All that is checked of an fvecs record before its readings are taken: refusals 1, 2, 10 and 3.
 fn check_fvecs_hour(s: Settings, steps: &[i32], hour: &[u8], room: usize) -> Verdict
-    ensures { λ r. ⌜ r ≡ encodeAsked s (now (steps .entry)) (fvecsHour (now (hour .entry))) room ⌝ }
+    ensures { λ r. ⌜ r ≡ encodeAsked (codeOf s) s (now (steps .entry)) (fvecsHour (sizeOf (codeOf s)) (now (hour .entry))) room ⌝ }
 {
     match asked::check_coder(s, steps) {
         Verdict::Refused(r) => Verdict::Refused(r),
@@ -154,8 +155,8 @@ fn check_fvecs_hour(s: Settings, steps: &[i32], hour: &[u8], room: usize) -> Ver
 
 // Codes an hour in whole units as a bvecs record at the front of the lent bytes; its value is how many bytes were written.
 pub fn encode_units(s: Settings, steps: &[i32], x: &[i32], out: &mut [u8]) -> Answer
-    ensures answer { λ r. ⌜ r ≡ encoded s (now (steps .entry)) (unitsHour (now (x .entry))) (length (now (out .entry))) ⌝ }
-    ensures room { λ _. ⌜ now (out .exit) ≡ encodedRoom s (now (steps .entry)) (unitsHour (now (x .entry))) (now (out .entry)) ⌝ }
+    ensures answer { λ r. ⌜ r ≡ encoded (codeOf s) s (now (steps .entry)) (unitsHour (sizeOf (codeOf s)) (now (x .entry))) (length (now (out .entry))) ⌝ }
+    ensures room { λ _. ⌜ now (out .exit) ≡ encodedRoom (codeOf s) s (now (steps .entry)) (unitsHour (sizeOf (codeOf s)) (now (x .entry))) (now (out .entry)) ⌝ }
 {
     match check_units_hour(s, steps, x, out.len()) {
         Verdict::Refused(r) => refusals::refused(r),
@@ -165,8 +166,8 @@ pub fn encode_units(s: Settings, steps: &[i32], x: &[i32], out: &mut [u8]) -> An
 
 // Codes an hour that is an fvecs record.
 pub fn encode(s: Settings, steps: &[i32], hour: &[u8], out: &mut [u8]) -> Answer
-    ensures answer { λ r. ⌜ r ≡ encoded s (now (steps .entry)) (fvecsHour (now (hour .entry))) (length (now (out .entry))) ⌝ }
-    ensures room { λ _. ⌜ now (out .exit) ≡ encodedRoom s (now (steps .entry)) (fvecsHour (now (hour .entry))) (now (out .entry)) ⌝ }
+    ensures answer { λ r. ⌜ r ≡ encoded (codeOf s) s (now (steps .entry)) (fvecsHour (sizeOf (codeOf s)) (now (hour .entry))) (length (now (out .entry))) ⌝ }
+    ensures room { λ _. ⌜ now (out .exit) ≡ encodedRoom (codeOf s) s (now (steps .entry)) (fvecsHour (sizeOf (codeOf s)) (now (hour .entry))) (now (out .entry)) ⌝ }
 {
     match check_fvecs_hour(s, steps, hour, out.len()) {
         Verdict::Refused(r) => refusals::refused(r),

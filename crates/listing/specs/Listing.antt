@@ -16,8 +16,9 @@ use Rattle.refusals.specs.declared.Verdict.{Verdict}
 use Rattle.refusals.specs.declared.Verdict.the-variants.{Accepted, Refused}
 use Rattle.refusals.specs.Limits.{mMost}
 use Rattle.refusals.specs.Verdicts.{rowOf, spotOf, unless}
-use Rattle.records.specs.Codes.{codeLength, stepOf, wholePoint}
-use Rattle.records.specs.Vectors.{unitsHour}
+use Rattle.records.specs.Eight.Codes.{codeLength, stepOf, wholePoint}
+use Rattle.records.specs.Eight.Vectors.{unitsHour}
+use Rattle.records.specs.Code.{eightOf}
 use Rattle.encoding.specs.Encode.{checkEncode}
 use Rattle.texts.specs.Text.{bytes, newline, space, minus, lineOf, numbers, settingsIn, wellFormed}
 
@@ -78,7 +79,7 @@ printed (Refused r) f = refusalLine r
 
 -- of what three lines ask for: the eight X are coded as one block, which is refused by 1, 2, 5 or 6, in this order
 unfoldable pub checkShown : Settings → List ℤ → List ℤ → Verdict
-checkShown c steps X = checkEncode c steps (unitsHour X) (codeLength mMost 1)
+checkShown c steps X = checkEncode (eightOf c) c steps (unitsHour X) (codeLength mMost 1)
 
 unfoldable pub blockShown : Settings → List ℤ → List ℤ → List ℕ
 blockShown c steps X = let q = natAbs (c .q) in let m = natAbs (c .m) in printed (checkShown c steps X) (blockListing q m steps (blockCode e8 nearest q m steps X))

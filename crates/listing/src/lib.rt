@@ -8,7 +8,7 @@ ghost use lib.IntN.{natAbs};
 ghost use lib.ListN.{length, drop};
 ghost use lib.Seq.{sets};
 ghost use Rattle.refusals.specs.Verdicts.{spotOf};
-ghost use Rattle.records.specs.Codes.{Coder, IsBlock};
+ghost use Rattle.records.specs.Eight.Codes.{Coder, IsBlock};
 ghost use Rattle.listing.specs.Listing.{roomMost, refusalLine, blockListing, blockShown, shown};
 use layers::points;
 use records::codes;

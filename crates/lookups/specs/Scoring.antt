@@ -6,7 +6,7 @@ use lib.ListN.{length, drop}
 use Rattle.integers.specs.Vectors.{«at»}
 use Rattle.layers.specs.Digits.{cut, entryOf}
 use Rattle.layers.specs.Sums.{layerSum, pairSum}
-use Rattle.records.specs.Codes.{blockSize, blocksIn, codeBlocks, checkFrame, checkBlocks, stepOf}
+use Rattle.records.specs.Eight.Codes.{blockSize, blocksIn, codeBlocks, checkFrame, checkBlocks, stepOf}
 use Rattle.refusals.specs.declared.Answer.{Answer}
 use Rattle.refusals.specs.declared.settings.Settings.{Settings}
 use Rattle.refusals.specs.declared.Verdict.{Verdict}
@@ -15,7 +15,7 @@ use Rattle.refusals.specs.Limits.{blocksMost}
 use Rattle.refusals.specs.Settings.{checkSettings}
 use Rattle.refusals.specs.Steps.{checkSteps}
 use Rattle.refusals.specs.Verdicts.{firstRefusal}
-use Rattle.scores.specs.Scores.{total, checkCode}
+use Rattle.scores.specs.Eight.Scores.{total, checkCode}
 use Rattle.tables.specs.Filling.{checkTable, checkEntries}
 use Rattle.tables.specs.Tables.{pairMost, queryMost, pairSize, partSize}
 

@@ -6,7 +6,7 @@ ghost use lib.IntN.{pos, natAbs};
 ghost use lib.ListN.{length, take};
 ghost use Rattle.integers.specs.Vectors.{«at»};
 ghost use Rattle.layers.specs.Digits.{Below, IsCode, cut, entryOf};
-ghost use Rattle.records.specs.Codes.{Coder, IsBlock, AreBlocks, blockSize};
+ghost use Rattle.records.specs.Eight.Codes.{Coder, IsBlock, AreBlocks, blockSize};
 ghost use Rattle.refusals.specs.Limits.{mMost};
 ghost use Rattle.scores.specs.Scores.{total};
 ghost use Rattle.lookups.specs.Laws.Sums.{powerSum};

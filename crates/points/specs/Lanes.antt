@@ -10,7 +10,7 @@ use lib.ListN.{length, getD, take, drop, replicate}
 use Rattle.integers.specs.Vectors.{«at», addV, scaleV, Sized}
 use Rattle.columns.specs.Columns.{column, Square8}
 use Rattle.layers.specs.E8.{decode8}
-use Rattle.records.specs.Codes.{blockSize, wholePoint}
+use Rattle.records.specs.Eight.Codes.{blockSize, wholePoint}
 
 -- c′ is c with ds for its column t
 pub record LayerPut (t : ℕ) (ds : List ℕ) (c c′ : List (List ℕ)) : Type 0 where

@@ -11,7 +11,7 @@ ghost use Rattle.layers.specs.Digits.{IsCode, cut};
 ghost use Rattle.layers.specs.E8.{decode8};
 ghost use Rattle.layers.specs.Table.{TableFor, layerTable};
 ghost use Rattle.refusals.specs.Limits.{mMost};
-ghost use Rattle.records.specs.Codes.{Digital, AreCodes, blockSize, wholePoint};
+ghost use Rattle.records.specs.Eight.Codes.{Digital, AreCodes, blockSize, wholePoint};
 ghost use Rattle.points.specs.Lanes.{LayerPut, Gathered, AllGathered, Taken, BlockPoints, Summable, SummableRows, SummedRows, wholeCoordinate, Foldable, FoldableRow, FoldableRows, FoldedRow, FoldedRows};
 use layers::lookup;
 use records::codes;

@@ -9,7 +9,7 @@ use lib.ListN.{length, getD, take, drop}
 use Rattle.integers.specs.Vectors.{«at»}
 use Rattle.coding.specs.Answers.{checkBelow}
 use Rattle.layers.specs.Digits.{IsCode, cut}
-use Rattle.layers.specs.E8.{decode8}
+use Rattle.layers.specs.Layers.{decode}
 use Rattle.layers.specs.Sizes.{Base}
 use Rattle.readings.specs.Words.{wordAt}
 use Rattle.refusals.specs.declared.Refusal.the-variants.{Byte, Record}
@@ -18,33 +18,37 @@ use Rattle.refusals.specs.declared.Verdict.the-variants.{Accepted, Refused}
 use Rattle.refusals.specs.Laws.Allowed.{AllowedSteps}
 use Rattle.refusals.specs.Limits.{qMost, mMost, powerMost}
 use Rattle.refusals.specs.Verdicts.{unless, firstRefusal}
+use Rattle.records.specs.Code.{Code, sizeOf}
 use Rattle.records.specs.Frames.{goodRecord}
 
--- a block's bytes: T, then 8 digits for each of m layers
-abbrev pub blockSize : ℕ → ℕ
-blockSize m = 8 * m + 1
+-- a block's bytes: T, then n digits for each of m layers
+abbrev pub blockBytes : ℕ → ℕ → ℕ
+blockBytes n m = n * m + 1
+
+abbrev pub blockSize : Code → ℕ
+blockSize C = blockBytes (sizeOf C) (C .m)
 
 -- the bytes of a code record of K blocks, its dimension included
-abbrev pub codeLength : ℕ → ℕ → ℕ
-codeLength m K = 4 + blockSize m * K
+abbrev pub codeLength : Code → ℕ → ℕ
+codeLength C K = 4 + blockSize C * K
 
 -- K of a code record, and its blocks
-abbrev pub blocksIn : ℕ → List ℕ → ℕ
-blocksIn m b = wordAt b 0 / blockSize m
+abbrev pub blocksIn : Code → List ℕ → ℕ
+blocksIn C b = wordAt b 0 / blockSize C
 
-abbrev pub codeBlocks : ℕ → List ℕ → List (List ℕ)
-codeBlocks m b = cut (blockSize m) (blocksIn m b) (drop 4 b)
+abbrev pub codeBlocks : Code → List ℕ → List (List ℕ)
+codeBlocks C b = cut (blockSize C) (blocksIn C b) (drop 4 b)
 
 -- the step that a coded block names, and its doubled point
 abbrev pub stepOf : List ℤ → List ℕ → ℤ
 stepOf steps b = «at» steps (getD b 0 0)
 
-abbrev pub wholePoint : ℕ → ℕ → List ℕ → List ℤ
-wholePoint q m b = decode8 q m (drop 1 b)
+abbrev pub wholePoint : Code → List ℕ → List ℤ
+wholePoint C b = decode (C .lattice) (C .rule) (C .q) (cut (sizeOf C) (C .m) (drop 1 b))
 
--- refusal 10 at the record's place, unless its dimension is K (8 M + 1), with K from least to most, and no byte is cut off
-abbrev pub checkFrame : ℕ → ℕ → ℕ → ℕ → List ℕ → Verdict
-checkFrame m least most place b = unless (goodRecord 1 (blockSize m) least most b) (Record place)
+-- refusal 10 at the record's place, unless its dimension is K blocks' bytes, with K from least to most, and no byte is cut off
+abbrev pub checkFrame : Code → ℕ → ℕ → ℕ → List ℕ → Verdict
+checkFrame C least most place b = unless (goodRecord 1 (blockSize C) least most b) (Record place)
 
 -- a block's bytes, the first in the place i: T below the number of steps, each digit below q; else refusal 7 at the first that is not
 abbrev pub checkBlock : ℕ → ℕ → ℕ → List ℕ → Verdict
@@ -83,18 +87,18 @@ pub record Coder (q : ℤ) (m : ℕ) (steps : List ℤ) : Type 0 where
   pub power : natAbs q ^ m ≤ powerMost
   pub listed : AllowedSteps steps
 
--- a block: T below the number of steps, then 8 m digits below q
-pub record IsBlock (steps q m : ℕ) (b : List ℕ) : Type 0 where
-  pub long : length b ≡ blockSize m
+-- a block: T below the number of steps, then the digits of m layers, below q
+pub record IsBlock (steps : ℕ) (C : Code) (b : List ℕ) : Type 0 where
+  pub long : length b ≡ blockSize C
   pub first : getD b 0 0 < steps
-  pub code : IsCode 8 q m (drop 1 b)
+  pub code : IsCode (sizeOf C) (C .q) (C .m) (drop 1 b)
 
 -- k of them in a row
-pub record AreBlocks (steps q m k : ℕ) (f : List ℕ) : Type 0 where
-  pub long : blockSize m * k ≤ length f
-  pub each : (i : ℕ) → i < k → IsBlock steps q m (take (blockSize m) (drop (blockSize m * i) f))
+pub record AreBlocks (steps : ℕ) (C : Code) (k : ℕ) (f : List ℕ) : Type 0 where
+  pub long : blockSize C * k ≤ length f
+  pub each : (i : ℕ) → i < k → IsBlock steps C (take (blockSize C) (drop (blockSize C * i) f))
 
 -- of each, the digits alone
-pub record AreCodes (q m k : ℕ) (f : List ℕ) : Type 0 where
-  pub long : blockSize m * k ≤ length f
-  pub each : (i : ℕ) → i < k → IsCode 8 q m (drop 1 (take (blockSize m) (drop (blockSize m * i) f)))
+pub record AreCodes (C : Code) (k : ℕ) (f : List ℕ) : Type 0 where
+  pub long : blockSize C * k ≤ length f
+  pub each : (i : ℕ) → i < k → IsCode (sizeOf C) (C .q) (C .m) (drop 1 (take (blockSize C) (drop (blockSize C * i) f)))

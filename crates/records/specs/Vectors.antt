@@ -24,13 +24,20 @@ pub record Hour : Type 0 where
   pub frame : Verdict
   pub readings : List Measured
 
--- whole units: refusal 3 unless there are 8 to 512 of them, a multiple of 8
-abbrev pub unitsHour : List ℤ → Hour
-unitsHour x = record { frame = unless (wholeBlocks 8 1 blocksMost (length x)) (Size 0); readings = map measureUnits x }
+-- the readings of whole units, and of an fvecs record
+abbrev pub unitReadings : List ℤ → List Measured
+unitReadings x = map measureUnits x
+
+abbrev pub fvecsReadings : List ℕ → List Measured
+fvecsReadings b = map (λ (i : ℕ). measureAt b (4 + 4 * i)) (range 0 (wordAt b 0))
+
+-- whole units: refusal 3 unless there are n to 64 n of them, a multiple of n
+abbrev pub unitsHour : ℕ → List ℤ → Hour
+unitsHour n x = record { frame = unless (wholeBlocks n 1 blocksMost (length x)) (Size 0); readings = unitReadings x }
 
 -- an fvecs record: refusal 10 unless its dimension is such a count and as many binary32 values follow
-abbrev pub fvecsHour : List ℕ → Hour
-fvecsHour b = record { frame = unless (goodRecord 4 8 1 blocksMost b) (Record 0); readings = map (λ (i : ℕ). measureAt b (4 + 4 * i)) (range 0 (wordAt b 0)) }
+abbrev pub fvecsHour : ℕ → List ℕ → Hour
+fvecsHour n b = record { frame = unless (goodRecord 4 n 1 blocksMost b) (Record 0); readings = fvecsReadings b }
 
 -- the first that is none is refused by its index, counted from i: 4 where it is missing, 5 where it is out of range
 abbrev pub checkReadings : ℕ → List Measured → Verdict
@@ -47,14 +54,14 @@ unitsTaken (measured.Missing ∷ r) = []
 unitsTaken (measured.OutOfRange ∷ r) = []
 
 -- K, the number of its blocks
-abbrev pub blocksOf : Hour → ℕ
-blocksOf h = length (h .readings) / 8
+abbrev pub blocksOf : ℕ → Hour → ℕ
+blocksOf n h = length (h .readings) / n
 
--- X in blocks of eight
-abbrev pub inBlocks : List ℤ → List (List ℤ)
-inBlocks X = cut 8 (length X / 8) X
+-- X in blocks of n
+abbrev pub inBlocks : ℕ → List ℤ → List (List ℤ)
+inBlocks n X = cut n (length X / n) X
 
 -- X of an hour whose readings were all taken
-pub record UnitsTaken (X : List ℤ) : Type 0 where
-  pub whole : wholeBlocks 8 1 blocksMost (length X) ≡ true
+pub record UnitsTaken (n : ℕ) (X : List ℤ) : Type 0 where
+  pub whole : wholeBlocks n 1 blocksMost (length X) ≡ true
   pub small : Bounded (2 ^ 24) X

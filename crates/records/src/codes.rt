@@ -1,10 +1,11 @@
 // Code records: the one check that decoding, scores and searches make (01, When the unit says no).
 ghost use mathlib.Core.Path.{_≡_};
 ghost use mathlib.Core.Bool.{true};
-ghost use Prim.Native.Nat.{_+_, _*_, _^_, _<_, _≤_};
+ghost use Prim.Native.Nat.{_+_, _*_, _/_, _^_, _<_, _≤_};
 ghost use lib.ListN.{length, getD};
 ghost use Rattle.layers.specs.Digits.{cut};
-ghost use Rattle.records.specs.Codes.{blockSize, blocksIn, stepOf, checkBlock, checkBlocks, AllAccepted, Raised};
+ghost use Rattle.readings.specs.Words.{wordAt};
+ghost use Rattle.records.specs.Codes.{blockBytes, stepOf, checkBlock, checkBlocks, AllAccepted, Raised};
 ghost use Rattle.refusals.specs.Limits.{mMost};
 use coding::asked;
 use readings::words;
@@ -14,7 +15,7 @@ use refusals::Verdict;
 // The bytes of a block of m layers.
 pub fn block_size(m: usize) -> usize
     requires { ⌜ m ≤ 256 ⌝ }
-    ensures { λ r. ⌜ r ≡ blockSize m ⌝ }
+    ensures { λ r. ⌜ r ≡ blockBytes 8 m ⌝ }
 {
     8 * m + 1
 }
@@ -22,7 +23,7 @@ pub fn block_size(m: usize) -> usize
 // K of a code record whose dimension is there.
 pub fn blocks_in(b: &[u8], m: usize) -> usize
     requires { ⌜ (m ≤ 256) × (4 ≤ length (now b)) ⌝ }
-    ensures { λ r. ⌜ r ≡ blocksIn m (now (b .entry)) ⌝ }
+    ensures { λ r. ⌜ r ≡ wordAt (now (b .entry)) 0 / blockBytes 8 m ⌝ }
 {
     words::word_at(b, 0) as usize / block_size(m)
 }
@@ -70,8 +71,8 @@ fn raised(top: &[u8; 8], ds: &[u8], at: usize) -> [u8; 8]
 
 // Whether k blocks of m layers have only steps and digits that there are: the greatest digits side by side, and the faults of the first bytes, without a jump for any.
 fn all_below(body: &[u8], k: usize, m: usize, steps: usize, q: usize) -> bool
-    requires { ⌜ (m ≤ mMost) × (blockSize m * k ≤ length (now body)) ⌝ }
-    ensures { λ r. ⌜ (r ≡ true → AllAccepted steps q (blockSize m) k (now (body .entry))) ⌝ }
+    requires { ⌜ (m ≤ mMost) × (blockBytes 8 m * k ≤ length (now body)) ⌝ }
+    ensures { λ r. ⌜ (r ≡ true → AllAccepted steps q (blockBytes 8 m) k (now (body .entry))) ⌝ }
 {
     let n = block_size(m);
     let mut faults: usize = 0;

@@ -19,14 +19,15 @@ use Rattle.refusals.specs.Settings.{checkSettings}
 use Rattle.refusals.specs.Steps.{checkSteps}
 use Rattle.refusals.specs.Verdicts.{unless, firstRefusal}
 use Rattle.reports.specs.declared.ReportAnswer.{ReportAnswer}
-use Rattle.records.specs.Codes.{stepOf, wholePoint}
+use Rattle.records.specs.Eight.Codes.{stepOf, wholePoint}
+use Rattle.records.specs.Code.{code8}
 use Rattle.encoding.specs.Encode.{checkFits}
-use Rattle.records.specs.Vectors.{unitsHour, checkReadings}
+use Rattle.records.specs.Eight.Vectors.{unitsHour, checkReadings}
 
 -- settings; steps; exactly eight readings; each a reading; last whether a listed step fits
 unfoldable pub checkReport : Settings → List ℤ → List ℤ → Verdict
 checkReport c steps x = firstRefusal (checkSettings c ∷ checkSteps 0 steps ∷ unless (eqb (length x) 8) (Size 0)
-    ∷ checkReadings 0 (unitsHour x .readings) ∷ checkFits (natAbs (c .q)) (natAbs (c .m)) steps 0 (x ∷ []) ∷ [])
+    ∷ checkReadings 0 (unitsHour x .readings) ∷ checkFits (code8 (natAbs (c .q)) (natAbs (c .m))) steps 0 (x ∷ []) ∷ [])
 
 -- each of eight readings X that were decoded at the step s as the doubled point e: as taken, as decoded, and the first less the second
 abbrev pub readingReports : List ℤ → ℤ → List ℤ → List Reading

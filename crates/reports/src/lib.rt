@@ -4,7 +4,8 @@ ghost use mathlib.Core.List.{[], _∷_};
 ghost use lib.IntN.{natAbs};
 ghost use Rattle.blocks.specs.Limits.{Block};
 ghost use Rattle.refusals.specs.declared.Verdict.the-variants.{Refused};
-ghost use Rattle.records.specs.Codes.{Coder};
+ghost use Rattle.records.specs.Eight.Codes.{Coder};
+ghost use Rattle.records.specs.Code.{code8};
 ghost use Rattle.encoding.specs.Encode.{checkFits};
 ghost use Rattle.reports.specs.Report.{checkGiven, readingReports, blockReport, noReadings, reported, report, Reportables};
 use layers::points;
@@ -78,7 +79,7 @@ fn report_readings(x: &[i32], s: i64, e: &[i64; 8]) -> [Reading; 8]
 // The report on a block: it is coded at the first step that fits, and decoded from its bytes. Refusal 6 where none fits.
 fn report_block(x: &[i32], steps: &[i32], q: i64, m: usize) -> ReportAnswer
     requires { ⌜ Block (now x) × Coder q m (now steps) ⌝ }
-    ensures { λ r. ⌜ r ≡ reported (checkFits (natAbs q) m (now (steps .entry)) 0 (now (x .entry) ∷ [])) (blockReport (natAbs q) m (now (steps .entry)) (now (x .entry))) ⌝ }
+    ensures { λ r. ⌜ r ≡ reported (checkFits (code8 (natAbs q) m) (now (steps .entry)) 0 (now (x .entry) ∷ [])) (blockReport (natAbs q) m (now (steps .entry)) (now (x .entry))) ⌝ }
 {
     let size = codes::block_size(m);
     let mut code: [u8; 33] = [0; 33];

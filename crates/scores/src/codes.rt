@@ -3,6 +3,7 @@ ghost use mathlib.Core.Path.{_≡_};
 ghost use mathlib.Core.List.{[], _∷_};
 ghost use Prim.Native.Nat.{_+_, _^_, _<_, _≤_};
 ghost use lib.ListN.{length};
+ghost use Rattle.records.specs.Code.{code8};
 ghost use Rattle.records.specs.Codes.{blocksIn};
 ghost use Rattle.refusals.specs.Limits.{blocksMost};
 ghost use Rattle.refusals.specs.Verdicts.{firstRefusal};
@@ -24,7 +25,7 @@ pub fn check_code(
     first: usize,
 ) -> Verdict
     requires { ⌜ (m ≤ 256) × (first + length (now b) < 2 ^ 64) ⌝ }
-    ensures { λ r. ⌜ r ≡ checkCode steps q m least most place first (now (b .entry)) ⌝ }
+    ensures { λ r. ⌜ r ≡ checkCode steps (code8 q m) least most place first (now (b .entry)) ⌝ }
 {
     let size = codes::block_size(m);
     if frames::good_record(b, 1, size, least, most) {
@@ -45,7 +46,7 @@ pub fn check_codes(
     m: usize,
 ) -> Verdict
     requires { ⌜ m ≤ 256 ⌝ }
-    ensures { λ r. ⌜ r ≡ firstRefusal (checkCode steps q m 1 blocksMost 0 0 (now (code .entry)) ∷ checkCode steps2 q m (blocksIn m (now (code .entry))) (blocksIn m (now (code .entry))) 0 0 (now (code2 .entry)) ∷ []) ⌝ }
+    ensures { λ r. ⌜ r ≡ firstRefusal (checkCode steps (code8 q m) 1 blocksMost 0 0 (now (code .entry)) ∷ checkCode steps2 (code8 q m) (blocksIn (code8 q m) (now (code .entry))) (blocksIn (code8 q m) (now (code .entry))) 0 0 (now (code2 .entry)) ∷ []) ⌝ }
 {
     match check_code(code, steps, q, m, 1, frames::BLOCKS_MOST, 0, 0) {
         Verdict::Refused(r) => Verdict::Refused(r),

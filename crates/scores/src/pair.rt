@@ -5,7 +5,8 @@ ghost use lib.IntN.{natAbs, _*ℤ_};
 ghost use lib.ListN.{length};
 ghost use Rattle.layers.specs.Digits.{cut};
 ghost use Rattle.layers.specs.Table.{TableFor};
-ghost use Rattle.records.specs.Codes.{Coder, AreBlocks, blockSize, stepOf};
+ghost use Rattle.records.specs.Code.{code8, codeOf};
+ghost use Rattle.records.specs.Codes.{Coder, AreBlocks, blockBytes, stepOf};
 ghost use Rattle.scores.specs.Scores.{Scored, total, inner, blockPair, checkPair, pairScore};
 use crate::codes;
 use crate::inner;
@@ -37,8 +38,8 @@ pub fn pair_total(
     m: usize,
     k: usize,
 ) -> i64
-    requires { ⌜ TableFor (natAbs q) (now t) × Coder q m (now steps) × Coder q m (now steps2) × AreBlocks (length (now steps)) (natAbs q) m k (now body) × AreBlocks (length (now steps2)) (natAbs q) m k (now body2) × (k ≤ 64) ⌝ }
-    ensures { λ r. ⌜ r ≡ total (blockPair (natAbs q) m (now (steps .entry)) (now (steps2 .entry))) (cut (blockSize m) k (now (body .entry))) (cut (blockSize m) k (now (body2 .entry))) ⌝ }
+    requires { ⌜ TableFor (natAbs q) (now t) × Coder q m (now steps) × Coder q m (now steps2) × AreBlocks (length (now steps)) (code8 (natAbs q) m) k (now body) × AreBlocks (length (now steps2)) (code8 (natAbs q) m) k (now body2) × (k ≤ 64) ⌝ }
+    ensures { λ r. ⌜ r ≡ total (blockPair (code8 (natAbs q) m) (now (steps .entry)) (now (steps2 .entry))) (cut (blockBytes 8 m) k (now (body .entry))) (cut (blockBytes 8 m) k (now (body2 .entry))) ⌝ }
 {
     let mut rows: [[i16; 8]; 64] = [[0; 8]; 64];
     let mut rows2: [[i16; 8]; 64] = [[0; 8]; 64];
@@ -74,8 +75,8 @@ fn pair_body(
     m: usize,
     k: usize,
 ) -> i64
-    requires { ⌜ Coder q m (now steps) × Coder q m (now steps2) × AreBlocks (length (now steps)) (natAbs q) m k (now body) × AreBlocks (length (now steps2)) (natAbs q) m k (now body2) × (k ≤ 64) ⌝ }
-    ensures { λ r. ⌜ r ≡ total (blockPair (natAbs q) m (now (steps .entry)) (now (steps2 .entry))) (cut (blockSize m) k (now (body .entry))) (cut (blockSize m) k (now (body2 .entry))) ⌝ }
+    requires { ⌜ Coder q m (now steps) × Coder q m (now steps2) × AreBlocks (length (now steps)) (code8 (natAbs q) m) k (now body) × AreBlocks (length (now steps2)) (code8 (natAbs q) m) k (now body2) × (k ≤ 64) ⌝ }
+    ensures { λ r. ⌜ r ≡ total (blockPair (code8 (natAbs q) m) (now (steps .entry)) (now (steps2 .entry))) (cut (blockBytes 8 m) k (now (body .entry))) (cut (blockBytes 8 m) k (now (body2 .entry))) ⌝ }
 {
     if q == 2 {
         pair_total(&table::layer_points(), steps, body, steps2, body2, q, m, k)
@@ -86,7 +87,7 @@ fn pair_body(
 
 // Refusals 1, then 2 for the first list and for the second, then the first record whole, then the second.
 fn check_pair(s: Settings, steps: &[i32], code: &[u8], steps2: &[i32], code2: &[u8]) -> Verdict
-    ensures { λ r. ⌜ r ≡ checkPair s (now (steps .entry)) (now (code .entry)) (now (steps2 .entry)) (now (code2 .entry)) ⌝ }
+    ensures { λ r. ⌜ r ≡ checkPair (codeOf s) s (now (steps .entry)) (now (code .entry)) (now (steps2 .entry)) (now (code2 .entry)) ⌝ }
 {
     match asked::check_coder(s, steps) {
         Verdict::Refused(r) => Verdict::Refused(r),
@@ -103,7 +104,7 @@ fn check_pair(s: Settings, steps: &[i32], code: &[u8], steps2: &[i32], code2: &[
 
 // The score of two code records.
 pub fn pair_score(s: Settings, steps: &[i32], code: &[u8], steps2: &[i32], code2: &[u8]) -> Answer
-    ensures answer { λ r. ⌜ r ≡ pairScore s (now (steps .entry)) (now (code .entry)) (now (steps2 .entry)) (now (code2 .entry)) ⌝ }
+    ensures answer { λ r. ⌜ r ≡ pairScore (codeOf s) s (now (steps .entry)) (now (code .entry)) (now (steps2 .entry)) (now (code2 .entry)) ⌝ }
 {
     match check_pair(s, steps, code, steps2, code2) {
         Verdict::Refused(r) => refusals::refused(r),

@@ -9,7 +9,8 @@ ghost use lib.ListN.{length, drop};
 ghost use Rattle.integers.specs.Vectors.{dot, Sized};
 ghost use Rattle.layers.specs.Digits.{cut};
 ghost use Rattle.layers.specs.Table.{TableFor, layerTable};
-ghost use Rattle.records.specs.Codes.{Coder, AreBlocks, blockSize, stepOf, wholePoint};
+ghost use Rattle.records.specs.Code.{code8, sizeOf, codeOf};
+ghost use Rattle.records.specs.Codes.{Coder, AreBlocks, blockBytes, stepOf, wholePoint};
 ghost use Rattle.records.specs.Laws.Asked.{CoderTaken};
 ghost use Rattle.records.specs.Vectors.{unitsHour, fvecsHour, UnitsTaken};
 ghost use Rattle.refusals.specs.Answers.{valued};
@@ -43,9 +44,9 @@ fn table_total(
     k: usize,
     rows: &mut [[i16; 8]; 64],
 ) -> i64
-    requires { ⌜ (now t ≡ layerTable) × Coder q m (now steps) × Sized (8 * k) (2 ^ 24) (now x) × AreBlocks (length (now steps)) (natAbs q) m k (now body) × (k ≤ 64) × (length (now rows) ≡ 64) ⌝ }
-    ensures answer { λ r. ⌜ r ≡ total (blockQuery (natAbs q) m (now (steps .entry))) (cut 8 k (now (x .entry))) (cut (blockSize m) k (now (body .entry))) ⌝ }
-    ensures room { λ _. ⌜ now (rows .exit) ≡ map (wholePoint (natAbs q) m) (cut (blockSize m) k (now (body .entry))) ++ drop k (now (rows .entry)) ⌝ }
+    requires { ⌜ (now t ≡ layerTable) × Coder q m (now steps) × Sized (8 * k) (2 ^ 24) (now x) × AreBlocks (length (now steps)) (code8 (natAbs q) m) k (now body) × (k ≤ 64) × (length (now rows) ≡ 64) ⌝ }
+    ensures answer { λ r. ⌜ r ≡ total (blockQuery (code8 (natAbs q) m) (now (steps .entry))) (cut 8 k (now (x .entry))) (cut (blockBytes 8 m) k (now (body .entry))) ⌝ }
+    ensures room { λ _. ⌜ now (rows .exit) ≡ map (wholePoint (code8 (natAbs q) m)) (cut (blockBytes 8 m) k (now (body .entry))) ++ drop k (now (rows .entry)) ⌝ }
 {
     points::whole_points(t, body, q, m, k, rows);
     let n = codes::block_size(m);
@@ -64,8 +65,8 @@ fn table_total(
 
 // The same sum by the rule, the points standing eight side by side.
 fn ruled_total(steps: &[i32], x: &[i32], body: &[u8], q: i64, m: usize, k: usize) -> i64
-    requires { ⌜ Coder q m (now steps) × Sized (8 * k) (2 ^ 24) (now x) × AreBlocks (length (now steps)) (natAbs q) m k (now body) × (k ≤ 64) ⌝ }
-    ensures { λ r. ⌜ r ≡ total (blockQuery (natAbs q) m (now (steps .entry))) (cut 8 k (now (x .entry))) (cut (blockSize m) k (now (body .entry))) ⌝ }
+    requires { ⌜ Coder q m (now steps) × Sized (8 * k) (2 ^ 24) (now x) × AreBlocks (length (now steps)) (code8 (natAbs q) m) k (now body) × (k ≤ 64) ⌝ }
+    ensures { λ r. ⌜ r ≡ total (blockQuery (code8 (natAbs q) m) (now (steps .entry))) (cut 8 k (now (x .entry))) (cut (blockBytes 8 m) k (now (body .entry))) ⌝ }
 {
     let n = codes::block_size(m);
     let mut e: [[i16; 8]; 8] = [[0; 8]; 8];
@@ -96,9 +97,9 @@ pub fn query_total(
     k: usize,
     rows: &mut [[i16; 8]; 64],
 ) -> i64
-    requires { ⌜ TableFor (natAbs q) (now t) × Coder q m (now steps) × Sized (8 * k) (2 ^ 24) (now x) × AreBlocks (length (now steps)) (natAbs q) m k (now body) × (k ≤ 64) × (length (now rows) ≡ 64) ⌝ }
-    ensures answer { λ r. ⌜ r ≡ total (blockQuery (natAbs q) m (now (steps .entry))) (cut 8 k (now (x .entry))) (cut (blockSize m) k (now (body .entry))) ⌝ }
-    ensures room { λ _. ⌜ now (rows .exit) ≡ cond (eqb (natAbs q) 2) (map (wholePoint (natAbs q) m) (cut (blockSize m) k (now (body .entry))) ++ drop k (now (rows .entry))) (now (rows .entry)) ⌝ }
+    requires { ⌜ TableFor (natAbs q) (now t) × Coder q m (now steps) × Sized (8 * k) (2 ^ 24) (now x) × AreBlocks (length (now steps)) (code8 (natAbs q) m) k (now body) × (k ≤ 64) × (length (now rows) ≡ 64) ⌝ }
+    ensures answer { λ r. ⌜ r ≡ total (blockQuery (code8 (natAbs q) m) (now (steps .entry))) (cut 8 k (now (x .entry))) (cut (blockBytes 8 m) k (now (body .entry))) ⌝ }
+    ensures room { λ _. ⌜ now (rows .exit) ≡ cond (eqb (natAbs q) 2) (map (wholePoint (code8 (natAbs q) m)) (cut (blockBytes 8 m) k (now (body .entry))) ++ drop k (now (rows .entry))) (now (rows .entry)) ⌝ }
 {
     if q == 2 {
         table_total(t, steps, x, body, q, m, k, rows)
@@ -109,8 +110,8 @@ pub fn query_total(
 
 // The same, having the table itself and the rows, once for all blocks.
 fn query_body(steps: &[i32], x: &[i32], body: &[u8], q: i64, m: usize, k: usize) -> i64
-    requires { ⌜ Coder q m (now steps) × Sized (8 * k) (2 ^ 24) (now x) × AreBlocks (length (now steps)) (natAbs q) m k (now body) × (k ≤ 64) ⌝ }
-    ensures { λ r. ⌜ r ≡ total (blockQuery (natAbs q) m (now (steps .entry))) (cut 8 k (now (x .entry))) (cut (blockSize m) k (now (body .entry))) ⌝ }
+    requires { ⌜ Coder q m (now steps) × Sized (8 * k) (2 ^ 24) (now x) × AreBlocks (length (now steps)) (code8 (natAbs q) m) k (now body) × (k ≤ 64) ⌝ }
+    ensures { λ r. ⌜ r ≡ total (blockQuery (code8 (natAbs q) m) (now (steps .entry))) (cut 8 k (now (x .entry))) (cut (blockBytes 8 m) k (now (body .entry))) ⌝ }
 {
     let mut rows: [[i16; 8]; 64] = [[0; 8]; 64];
     if q == 2 {
@@ -122,8 +123,8 @@ fn query_body(steps: &[i32], x: &[i32], body: &[u8], q: i64, m: usize, k: usize)
 
 // The core on X: the record is checked, with as many blocks as there are of X, then scored.
 fn score_units(s: Settings, steps: &[i32], x: &[i32], code: &[u8]) -> Answer
-    requires { ⌜ CoderTaken s (now steps) × UnitsTaken (now x) ⌝ }
-    ensures { λ r. ⌜ r ≡ valued (checkCode (length (now (steps .entry))) (natAbs (s .q)) (natAbs (s .m)) (length (now (x .entry)) / 8) (length (now (x .entry)) / 8) 0 0 (now (code .entry))) (queryTotal (natAbs (s .q)) (natAbs (s .m)) (now (steps .entry)) (now (x .entry)) (now (code .entry))) ⌝ }
+    requires { ⌜ CoderTaken s (now steps) × UnitsTaken (sizeOf (codeOf s)) (now x) ⌝ }
+    ensures { λ r. ⌜ r ≡ valued (checkCode (length (now (steps .entry))) (codeOf s) (length (now (x .entry)) / sizeOf (codeOf s)) (length (now (x .entry)) / sizeOf (codeOf s)) 0 0 (now (code .entry))) (queryTotal (codeOf s) (now (steps .entry)) (now (x .entry)) (now (code .entry))) ⌝ }
 {
     let k = x.len() / 8;
     let m = settings::layers(s);
@@ -138,7 +139,7 @@ fn score_units(s: Settings, steps: &[i32], x: &[i32], code: &[u8]) -> Answer
 
 // The score of an hour in whole units against a code record.
 pub fn query_score_units(s: Settings, steps: &[i32], x: &[i32], code: &[u8]) -> Answer
-    ensures answer { λ r. ⌜ r ≡ queryScore s (now (steps .entry)) (unitsHour (now (x .entry))) (now (code .entry)) ⌝ }
+    ensures answer { λ r. ⌜ r ≡ queryScore (codeOf s) s (now (steps .entry)) (unitsHour (sizeOf (codeOf s)) (now (x .entry))) (now (code .entry)) ⌝ }
 {
     match hours::check_units_hour(s, steps, x) {
         Verdict::Refused(r) => refusals::refused(r),
@@ -148,7 +149,7 @@ pub fn query_score_units(s: Settings, steps: &[i32], x: &[i32], code: &[u8]) -> 
 
 // The score of an hour that is an fvecs record.
 pub fn query_score(s: Settings, steps: &[i32], query: &[u8], code: &[u8]) -> Answer
-    ensures answer { λ r. ⌜ r ≡ queryScore s (now (steps .entry)) (fvecsHour (now (query .entry))) (now (code .entry)) ⌝ }
+    ensures answer { λ r. ⌜ r ≡ queryScore (codeOf s) s (now (steps .entry)) (fvecsHour (sizeOf (codeOf s)) (now (query .entry))) (now (code .entry)) ⌝ }
 {
     let mut x: [i32; hours::READINGS_MOST] = [0; hours::READINGS_MOST];
     match hours::take_fvecs_hour(s, steps, query, &mut x) {

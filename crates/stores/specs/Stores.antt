@@ -8,9 +8,9 @@ use lib.IntN.{ℤ, pos, natAbs}
 use lib.ListN.{length, take, drop}
 use lib.Signed.{ltZ}
 use Rattle.layers.specs.Digits.{cut}
-use Rattle.records.specs.Codes.{codeLength}
-use Rattle.records.specs.Laws.Asked.{RecordTaken}
-use Rattle.records.specs.Vectors.{Hour, checkReadings, unitsTaken, blocksOf}
+use Rattle.records.specs.Eight.Codes.{codeLength}
+use Rattle.records.specs.Eight.Asked.{RecordTaken}
+use Rattle.records.specs.Eight.Vectors.{Hour, checkReadings, unitsTaken, blocksOf}
 use Rattle.refusals.specs.declared.settings.Settings.{Settings}
 use Rattle.refusals.specs.declared.Refusal.the-variants.{EmptyStore}
 use Rattle.refusals.specs.declared.Verdict.{Verdict}
@@ -18,7 +18,7 @@ use Rattle.refusals.specs.declared.Verdict.the-variants.{Accepted, Refused}
 use Rattle.refusals.specs.Settings.{checkSettings}
 use Rattle.refusals.specs.Steps.{checkSteps}
 use Rattle.refusals.specs.Verdicts.{unless, firstRefusal}
-use Rattle.scores.specs.Scores.{queryTotal, checkCode}
+use Rattle.scores.specs.Eight.Scores.{queryTotal, checkCode}
 use Rattle.stores.specs.declared.Best.{Best}
 use Rattle.stores.specs.declared.HourAnswer.{HourAnswer}
 

@@ -2,8 +2,8 @@
 ghost use mathlib.Core.Path.{_≡_};
 ghost use Prim.Native.Nat.{_+_, _^_, _<_, _≤_};
 ghost use lib.ListN.{length, take};
-ghost use Rattle.records.specs.Codes.{codeLength};
-ghost use Rattle.scores.specs.Scores.{checkCode};
+ghost use Rattle.records.specs.Eight.Codes.{codeLength};
+ghost use Rattle.scores.specs.Eight.Scores.{checkCode};
 ghost use Rattle.stores.specs.Stores.{pieces, checkRecords, checkStore};
 use records::codes;
 use refusals::Refusal;

@@ -4,7 +4,7 @@ use Prim.Native.Nat.{ℕ, _*_}
 use lib.Dec.{leb}
 use lib.IntN.{ℤ, pos, natAbs}
 use lib.ListN.{length}
-use Rattle.records.specs.Vectors.{Hour, checkReadings, unitsTaken, blocksOf}
+use Rattle.records.specs.Eight.Vectors.{Hour, checkReadings, unitsTaken, blocksOf}
 use Rattle.refusals.specs.declared.Answer.{Answer}
 use Rattle.refusals.specs.declared.settings.Settings.{Settings}
 use Rattle.refusals.specs.declared.Refusal.the-variants.{Table, Size}

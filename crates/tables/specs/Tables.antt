@@ -6,7 +6,7 @@ use Rattle.integers.specs.Laws.Loops.{range}
 use Rattle.integers.specs.Vectors.{dot}
 use Rattle.layers.specs.Digits.{joined, digitsOf}
 use Rattle.layers.specs.E8.{layerPoint8}
-use Rattle.records.specs.Vectors.{inBlocks}
+use Rattle.records.specs.Eight.Vectors.{inBlocks}
 use Rattle.scores.specs.Scores.{inner}
 
 -- the greatest q that the pair table is for

@@ -7,7 +7,7 @@ ghost use lib.ListN.{length, drop};
 ghost use Rattle.integers.specs.Vectors.{Sized};
 ghost use Rattle.layers.specs.Digits.{joined, cut};
 ghost use Rattle.layers.specs.Sizes.{Base};
-ghost use Rattle.records.specs.Vectors.{unitsHour, fvecsHour, checkReadings, UnitsTaken};
+ghost use Rattle.records.specs.Eight.Vectors.{unitsHour, fvecsHour, checkReadings, UnitsTaken};
 ghost use Rattle.refusals.specs.declared.Verdict.the-variants.{Accepted};
 ghost use Rattle.refusals.specs.Answers.{valued, written};
 ghost use Rattle.refusals.specs.Laws.Allowed.{Allowed};

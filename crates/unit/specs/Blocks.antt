@@ -9,9 +9,10 @@ use Rattle.refusals.specs.declared.Verdict.{Verdict}
 use Rattle.refusals.specs.Verdicts.{numberOf, placeOf}
 use Rattle.lattice.specs.Answers.{nearest}
 use Rattle.coding.specs.Answers.{decoded}
-use Rattle.records.specs.Vectors.{unitsHour}
+use Rattle.records.specs.Eight.Vectors.{unitsHour}
+use Rattle.records.specs.Code.{eightOf}
 use Rattle.encoding.specs.Encode.{encoded, encodedRoom}
-use Rattle.scores.specs.Scores.{pairScore}
+use Rattle.scores.specs.Eight.Scores.{pairScore}
 
 -- what a row asks for, and what is expected of it: a doubled point, a score, a refusal's number, or a block's bytes
 pub data Row : Type 0 where
@@ -31,7 +32,7 @@ recorded b = length b ∷ 0 ∷ 0 ∷ 0 ∷ b
 
 -- an hour of one block, encoded into 13 bytes 0: the answer's value, then the room
 abbrev encodedHere : Settings → List ℤ → List ℤ → List ℤ
-encodedHere c steps X = let a = encoded c steps (unitsHour X) 13 in answer (a .verdict) (a .value ∷ map pos (encodedRoom c steps (unitsHour X) (replicate 13 0)))
+encodedHere c steps X = let a = encoded (eightOf c) c steps (unitsHour X) 13 in answer (a .verdict) (a .value ∷ map pos (encodedRoom (eightOf c) c steps (unitsHour X) (replicate 13 0)))
 
 -- what the operation answers
 abbrev pub answered : Row → List ℤ

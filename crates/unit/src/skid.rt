@@ -2,9 +2,10 @@
 ghost use mathlib.Core.Path.{_≡_};
 ghost use lib.ListN.{length};
 ghost use Rattle.decoding.specs.Decode.{decoded, decodedRoom};
+ghost use Rattle.records.specs.Code.{codeOf};
 ghost use Rattle.encoding.specs.Encode.{encoded, encodedRoom};
-ghost use Rattle.records.specs.Vectors.{unitsHour, fvecsHour};
-ghost use Rattle.scores.specs.Scores.{pairScore, queryScore};
+ghost use Rattle.records.specs.Eight.Vectors.{unitsHour, fvecsHour};
+ghost use Rattle.scores.specs.Eight.Scores.{pairScore, queryScore};
 ghost use Rattle.stores.specs.Stores.{bestHour};
 ghost use Rattle.stores.specs.Tabled.{bestHourBy, bestHourTable};
 ghost use Rattle.tables.specs.Filling.{pairFilled, pairTableRoom, queryFilled, queryTableRoom};
@@ -18,8 +19,8 @@ use crate::answers::EkSettings;
 // Codes an hour that is an fvecs record as a bvecs record at the front of the lent bytes (01, Bytes).
 #[no_mangle]
 pub extern "C" fn ek_encode(s: EkSettings, steps: &[i32], hour: &[u8], out: &mut [u8]) -> EkAnswer
-    ensures answer { λ r. ⌜ r ≡ answerOut (encoded (settings s) (now (steps .entry)) (fvecsHour (now (hour .entry))) (length (now (out .entry)))) ⌝ }
-    ensures room { λ _. ⌜ now (out .exit) ≡ encodedRoom (settings s) (now (steps .entry)) (fvecsHour (now (hour .entry))) (now (out .entry)) ⌝ }
+    ensures answer { λ r. ⌜ r ≡ answerOut (encoded (codeOf (settings s)) (settings s) (now (steps .entry)) (fvecsHour (now (hour .entry))) (length (now (out .entry)))) ⌝ }
+    ensures room { λ _. ⌜ now (out .exit) ≡ encodedRoom (codeOf (settings s)) (settings s) (now (steps .entry)) (fvecsHour (now (hour .entry))) (now (out .entry)) ⌝ }
 {
     answers::answer_out(encoding::encode(answers::settings_in(s), steps, hour, out))
 }
@@ -32,8 +33,8 @@ pub extern "C" fn ek_encode_units(
     units: &[i32],
     out: &mut [u8],
 ) -> EkAnswer
-    ensures answer { λ r. ⌜ r ≡ answerOut (encoded (settings s) (now (steps .entry)) (unitsHour (now (units .entry))) (length (now (out .entry)))) ⌝ }
-    ensures room { λ _. ⌜ now (out .exit) ≡ encodedRoom (settings s) (now (steps .entry)) (unitsHour (now (units .entry))) (now (out .entry)) ⌝ }
+    ensures answer { λ r. ⌜ r ≡ answerOut (encoded (codeOf (settings s)) (settings s) (now (steps .entry)) (unitsHour (now (units .entry))) (length (now (out .entry)))) ⌝ }
+    ensures room { λ _. ⌜ now (out .exit) ≡ encodedRoom (codeOf (settings s)) (settings s) (now (steps .entry)) (unitsHour (now (units .entry))) (now (out .entry)) ⌝ }
 {
     answers::answer_out(encoding::encode_units(answers::settings_in(s), steps, units, out))
 }

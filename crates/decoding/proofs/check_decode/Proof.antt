@@ -18,10 +18,10 @@ use Rattle.refusals.specs.Settings.{checkSettings}
 use Rattle.refusals.specs.Steps.{checkSteps}
 use Rattle.refusals.specs.Verdicts.{unless, firstRefusal}
 use Rattle.layers.specs.Digits.{cut}
-use Rattle.records.specs.Codes.{blockSize, blocksIn, codeBlocks, checkBlocks}
+use Rattle.records.specs.Eight.Codes.{blockSize, blocksIn, codeBlocks, checkBlocks}
 use Rattle.decoding.specs.Decode.{fvecsLength, checkDecode}
 use Rattle.records.specs.Frames.{goodRecord}
-use Rattle.records.specs.Laws.Asked.{CoderTaken, coder-accepted, frame-holds}
+use Rattle.records.specs.Eight.Asked.{CoderTaken, coder-accepted, frame-holds}
 use Rattle.records.specs.Laws.Frames.{Framed, record-framed}
 use Rattle.decoding.proofs.check_decode.Statement.{statement}
 use Rattle.decoding.proofs.check_decode.Tie as tie

@@ -12,7 +12,7 @@ use mir.Facts.{toZ-ofZ}
 use Rattle.refusals.specs.declared.Verdict.{Verdict}
 use Rattle.refusals.specs.declared.Verdict.the-variants.{Accepted}
 use Rattle.refusals.specs.Answers.{valued, written}
-use Rattle.records.specs.Codes.{Coder, AreBlocks, blocksIn, codeBlocks}
+use Rattle.records.specs.Eight.Codes.{Coder, AreBlocks, blocksIn, codeBlocks}
 use Rattle.decoding.specs.Decode.{fvecsLength, decodedRecord, checkDecode, decoded, decodedRoom}
 use Rattle.decoding.specs.Laws.Decode.{DecodeTaken, decode-taken}
 use Rattle.records.specs.Laws.Parts.{front-long}

@@ -12,7 +12,7 @@ use mir.Val.{SFits, toZ}
 use mir.Facts.{toZ-ofZ}
 use Rattle.layers.specs.Digits.{joined, cut}
 use Rattle.layers.specs.Laws.Loops.{write-in}
-use Rattle.records.specs.Codes.{blockSize, stepOf, wholePoint}
+use Rattle.records.specs.Eight.Codes.{blockSize, stepOf, wholePoint}
 use Rattle.decoding.specs.Decode.{Readable, readingBytes, decodedBytes}
 use Rattle.decoding.specs.Laws.Decode.{block-readable}
 use Rattle.records.specs.Laws.Parts.{part-ends, cut-more, joined-more, front-long}

@@ -10,7 +10,7 @@ use mir.Val.{ofZ}
 use mir.Facts.{toZ-ofZ}
 use Rattle.layers.specs.Digits.{joined, cut}
 use Rattle.layers.specs.Laws.Bases.{base-is}
-use Rattle.records.specs.Codes.{blockSize}
+use Rattle.records.specs.Eight.Codes.{blockSize}
 use Rattle.decoding.specs.Decode.{decodedBytes}
 use Rattle.decoding.proofs.put_body.Statement.{statement}
 use Rattle.decoding.proofs.put_body.Tie as tie

@@ -11,7 +11,7 @@ use mir.Facts.{toZ-ofZ}
 use Rattle.integers.specs.Laws.Loops.{rest-whole}
 use Rattle.layers.specs.Digits.{joined, cut}
 use Rattle.readings.specs.Words.{bytesOf}
-use Rattle.records.specs.Codes.{AreBlocks, blockSize, blocksIn}
+use Rattle.records.specs.Eight.Codes.{AreBlocks, blockSize, blocksIn}
 use Rattle.decoding.specs.Decode.{decodedBytes, fvecsLength}
 use Rattle.records.specs.Laws.Parts.{write-rest}
 use Rattle.decoding.proofs.put_record.Statement.{statement}

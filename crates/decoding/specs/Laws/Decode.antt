@@ -19,10 +19,10 @@ use Rattle.refusals.specs.Steps.{checkSteps}
 use Rattle.refusals.specs.Verdicts.{unless}
 use Rattle.layers.specs.Laws.Bases.{base-two}
 use Rattle.layers.specs.Laws.E8.{decode-in8, decode-times8}
-use Rattle.records.specs.Codes.{Coder, IsBlock, blockSize, blocksIn, codeBlocks, checkFrame, checkBlocks, stepOf, wholePoint}
+use Rattle.records.specs.Eight.Codes.{Coder, IsBlock, blockSize, blocksIn, codeBlocks, checkFrame, checkBlocks, stepOf, wholePoint}
 use Rattle.decoding.specs.Decode.{Readable, fvecsLength, checkDecode}
 use Rattle.records.specs.Frames.{goodRecord}
-use Rattle.records.specs.Laws.Asked.{CoderTaken, coder-taken, RecordTaken, record-taken}
+use Rattle.records.specs.Eight.Asked.{CoderTaken, coder-taken, RecordTaken, record-taken}
 
 -- the readings of a checked block are exact
 pub block-readable : (q : ℤ) (m : ℕ) (steps : List ℤ) (b : List ℕ) → Coder q m steps → IsBlock (length steps) (natAbs q) m b → Readable (stepOf steps b) (wholePoint (natAbs q) m b)

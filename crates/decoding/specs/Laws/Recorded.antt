@@ -17,10 +17,11 @@ use Rattle.readings.specs.Laws.Words.{word-first}
 use Rattle.readings.specs.Words.{wordAt}
 use Rattle.refusals.specs.declared.Verdict.the-variants.{Accepted}
 use Rattle.refusals.specs.Limits.{blocksMost, mMost}
-use Rattle.records.specs.Codes.{blockSize, blocksIn, codeBlocks, checkBlocks, Coder, IsBlock, stepOf, wholePoint}
+use Rattle.records.specs.Eight.Codes.{blockSize, blocksIn, codeBlocks, checkBlocks, Coder, IsBlock, stepOf, wholePoint}
+use Rattle.records.specs.Code.{code8}
 use Rattle.encoding.specs.Encode.{codeBytes, codeRecord}
 use Rattle.records.specs.Frames.{goodRecord}
-use Rattle.records.specs.Laws.Asked.{coder-positive, steps-positive, blocks-accepted}
+use Rattle.records.specs.Eight.Asked.{coder-positive, steps-positive, blocks-accepted}
 use Rattle.encoding.specs.Laws.Encode.{codeRecord-long}
 use Rattle.encoding.specs.Laws.Fitting.{AllFitted}
 use Rattle.records.specs.Laws.Frames.{whole-blocks, frame-good}
@@ -28,14 +29,14 @@ use Rattle.records.specs.Laws.Parts.{cut-made, part-made}
 
 module _ (q m : ℕ) (steps : List ℤ) (l : List (List ℤ)) (rest : List ℕ) where
   abbrev found : List ℕ
-  found = codeRecord q m steps l ++ rest
+  found = codeRecord (code8 q m) steps l ++ rest
 
   abbrev code : List ℤ → List ℕ
   code = blockCode e8 nearest q m steps
 
   module _ (few : length l ≤ blocksMost) (layers : m ≤ mMost) where
     dimension : wordAt found 0 ≡ blockSize m * length l
-    dimension = let s : blockSize m ≤ 33 = omega arith in word-first (blockSize m * length l) (codeBytes q m steps l ++ rest) (omega (arith, mul-le-mul s few))
+    dimension = let s : blockSize m ≤ 33 = omega arith in word-first (blockSize m * length l) (codeBytes (code8 q m) steps l ++ rest) (omega (arith, mul-le-mul s few))
 
     -- as many blocks as there are
     pub record-count : blocksIn m found ≡ length l
@@ -56,16 +57,16 @@ module _ (q m : ℕ) (steps : List ℤ) (l : List (List ℤ)) (rest : List ℕ) 
 
 -- so they depend on its own eight readings alone, whatever the other blocks, their number K, and its place
 pub block-bytes-same : (q m : ℕ) (steps : List ℤ) (l l′ : List (List ℤ)) (rest rest′ : List ℕ) (i i′ : ℕ) → i < length l → i′ < length l′ → getD l i [] ≡ getD l′ i′ []
-    → take (blockSize m) (drop (4 + blockSize m * i) (codeRecord q m steps l ++ rest)) ≡ take (blockSize m) (drop (4 + blockSize m * i′) (codeRecord q m steps l′ ++ rest′))
+    → take (blockSize m) (drop (4 + blockSize m * i) (codeRecord (code8 q m) steps l ++ rest)) ≡ take (blockSize m) (drop (4 + blockSize m * i′) (codeRecord (code8 q m) steps l′ ++ rest′))
 block-bytes-same q m steps l l′ rest rest′ i i′ h h′ e =
     block-bytes q m steps l rest i h ∙ ap (blockCode e8 nearest q m steps) e ∙ sym (block-bytes q m steps l′ rest′ i′ h′)
 
 -- ---- decoding what was encoded
 
 module _ (q : ℤ) (m : ℕ) (steps : List ℤ) (coder : Coder q m steps) (l : List (List ℤ)) (rest : List ℕ) (few : length l ≤ blocksMost)
-    (eight : (i : ℕ) → i < length l → length (getD l i []) ≡ 8) (fitted : AllFitted (natAbs q) m steps (length l) l) where
+    (eight : (i : ℕ) → i < length l → length (getD l i []) ≡ 8) (fitted : AllFitted (code8 (natAbs q) m) steps (length l) l) where
   abbrev read : List (List ℕ)
-  read = codeBlocks m (codeRecord (natAbs q) m steps l ++ rest)
+  read = codeBlocks m (codeRecord (code8 (natAbs q) m) steps l ++ rest)
 
   read-is : read ≡ map (blockCode e8 nearest (natAbs q) m steps) l
   read-is = record-blocks (natAbs q) m steps l rest few (coder .few)

@@ -18,20 +18,21 @@ use Rattle.refusals.specs.Limits.{blocksMost}
 use Rattle.refusals.specs.Settings.{checkSettings}
 use Rattle.refusals.specs.Steps.{checkSteps}
 use Rattle.refusals.specs.Verdicts.{unless}
-use Rattle.records.specs.Codes.{blockSize, codeLength, blocksIn, codeBlocks, stepOf, wholePoint}
+use Rattle.records.specs.Eight.Codes.{blockSize, codeLength, blocksIn, codeBlocks, stepOf, wholePoint}
 use Rattle.decoding.specs.Decode.{fvecsLength, checkDecode}
+use Rattle.records.specs.Code.{code8, eightOf}
 use Rattle.encoding.specs.Encode.{codeRecord, encodeAsked, checkEncode, encodedRoom}
 use Rattle.decoding.specs.Laws.Decode.{decode-accepted}
 use Rattle.encoding.specs.Laws.Theorems.{encode-accepted}
 use Rattle.encoding.specs.Laws.Encoded.{EncodeTaken, encode-taken}
 use Rattle.encoding.specs.Laws.Fitting.{AllFitted}
 use Rattle.records.specs.Laws.Frames.{Whole, blocks-whole}
-use Rattle.records.specs.Laws.Hours.{Sound}
+use Rattle.records.specs.Eight.Hours.{Sound}
 use Rattle.records.specs.Laws.Parts.{cut-long, cut-at}
 use Rattle.decoding.specs.Laws.Recorded.{record-count, record-good, block-bytes, encode-decodes, encoded-good}
-use Rattle.records.specs.Vectors.{Hour, checkReadings, unitsTaken, blocksOf, inBlocks}
+use Rattle.records.specs.Eight.Vectors.{Hour, checkReadings, unitsTaken, blocksOf, inBlocks}
 
-module _ (c : Settings) (steps : List ℤ) (h : Hour) (sound : Sound h) (out : List ℕ) (ok : checkEncode c steps h (length out) ≡ Accepted) where
+module _ (c : Settings) (steps : List ℤ) (h : Hour) (sound : Sound h) (out : List ℕ) (ok : checkEncode (eightOf c) c steps h (length out) ≡ Accepted) where
   abbrev q : ℕ
   q = natAbs (c .q)
 
@@ -46,11 +47,11 @@ module _ (c : Settings) (steps : List ℤ) (h : Hour) (sound : Sound h) (out : L
   part i = take 8 (drop (8 * i) X)
 
   -- what it says that the hour was accepted
-  accepted : (encodeAsked c steps h (length out) ≡ Accepted) × (checkReadings 0 (h .readings) ≡ Accepted) × AllFitted q m steps (length (inBlocks X)) (inBlocks X)
-  accepted = encode-accepted c steps h (length out) .0 ok
+  accepted : (encodeAsked (eightOf c) c steps h (length out) ≡ Accepted) × (checkReadings 0 (h .readings) ≡ Accepted) × AllFitted (code8 q m) steps (length (inBlocks X)) (inBlocks X)
+  accepted = encode-accepted (eightOf c) c steps h (length out) .0 ok
 
-  taken : EncodeTaken c steps h (length out)
-  taken = encode-taken c steps h (length out) sound (rw (accepted .0, accepted .1))
+  taken : EncodeTaken (eightOf c) c steps h (length out)
+  taken = encode-taken (eightOf c) c steps h (length out) sound (rw (accepted .0, accepted .1))
 
   whole : Whole 8 1 blocksMost (length X)
   whole = blocks-whole 8 1 blocksMost (length X) (taken .units .whole)
@@ -72,21 +73,21 @@ module _ (c : Settings) (steps : List ℤ) (h : Hour) (sound : Sound h) (out : L
   eight i k = rw (block-is i k) (simp (length-take, length-drop) (omega (arith, count, whole .times)))
 
   abbrev after : List ℕ
-  after = encodedRoom c steps h out
+  after = encodedRoom (eightOf c) c steps h out
 
   abbrev rest : List ℕ
-  rest = drop (length (codeRecord q m steps (inBlocks X))) out
+  rest = drop (length (codeRecord (code8 q m) steps (inBlocks X))) out
 
   -- the room: their record, then as found
-  after-is : after ≡ codeRecord q m steps (inBlocks X) ++ rest
+  after-is : after ≡ codeRecord (code8 q m) steps (inBlocks X) ++ rest
   unfolding encodedRoom
-  after-is = ap (λ (v : Verdict). written v (codeRecord q m steps (inBlocks X)) out) ok
+  after-is = ap (λ (v : Verdict). written v (codeRecord (code8 q m) steps (inBlocks X)) out) ok
 
   -- the room is a record that decoding accepts, where there is room for its readings
   pub room-accepted : (room : ℕ) → fvecsLength (blocksOf h) ≤ room → checkDecode c steps after room ≡ Accepted
   unfolding encodeAsked
   room-accepted room k =
-      let roomy : Verdict = unless (leb (codeLength m (blocksOf h)) (length out)) (Size 1) in let b : List ℕ = codeRecord q m steps (inBlocks X) ++ rest in let coder = taken .taken .coder in
+      let roomy : Verdict = unless (leb (codeLength m (blocksOf h)) (length out)) (Size 1) in let b : List ℕ = codeRecord (code8 q m) steps (inBlocks X) ++ rest in let coder = taken .taken .coder in
       let s = first-accepted (checkSettings c) (checkSteps 0 steps ∷ h .frame ∷ roomy ∷ []) (accepted .0) in let l = first-accepted (checkSteps 0 steps) (h .frame ∷ roomy ∷ []) (s .1) in
       let n : blocksIn m b ≡ blocksOf h = record-count q m steps (inBlocks X) rest few (coder .few) ∙ sym same-count in
       rw after-is (decode-accepted c steps b room (s .0) (l .0) (record-good q m steps (inBlocks X) rest few (coder .few) (omega (arith, count, whole .some))) (omega arith)
@@ -106,8 +107,8 @@ module _ (c : Settings) (steps : List ℤ) (h : Hour) (sound : Sound h) (out : L
 
 -- so in two accepted encodings with equal settings and steps, a block's bytes depend on its own eight readings alone
 pub room-bytes-same : (c : Settings) (steps : List ℤ) (h h′ : Hour) (out out′ : List ℕ) (i i′ : ℕ) → Sound h → Sound h′
-    → checkEncode c steps h (length out) ≡ Accepted → checkEncode c steps h′ (length out′) ≡ Accepted → i < blocksOf h → i′ < blocksOf h′
+    → checkEncode (eightOf c) c steps h (length out) ≡ Accepted → checkEncode (eightOf c) c steps h′ (length out′) ≡ Accepted → i < blocksOf h → i′ < blocksOf h′
     → take 8 (drop (8 * i) (unitsTaken (h .readings))) ≡ take 8 (drop (8 * i′) (unitsTaken (h′ .readings)))
-    → let n = blockSize (natAbs (c .m)) in take n (drop (4 + n * i) (encodedRoom c steps h out)) ≡ take n (drop (4 + n * i′) (encodedRoom c steps h′ out′))
+    → let n = blockSize (natAbs (c .m)) in take n (drop (4 + n * i) (encodedRoom (eightOf c) c steps h out)) ≡ take n (drop (4 + n * i′) (encodedRoom (eightOf c) c steps h′ out′))
 room-bytes-same c steps h h′ out out′ i i′ s s′ ok ok′ k k′ e =
     room-bytes c steps h s out ok i k ∙ ap (blockCode e8 nearest (natAbs (c .q)) (natAbs (c .m)) steps) e ∙ sym (room-bytes c steps h′ s′ out′ ok′ i′ k′)

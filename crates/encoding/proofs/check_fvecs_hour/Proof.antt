@@ -12,13 +12,14 @@ use Rattle.refusals.specs.declared.Verdict.{Verdict}
 use Rattle.refusals.specs.declared.Verdict.the-variants.{Accepted, Refused}
 use Rattle.refusals.specs.Laws.Verdicts.{first-last}
 use Rattle.refusals.specs.Verdicts.{unless, firstRefusal}
-use Rattle.records.specs.Codes.{codeLength}
+use Rattle.records.specs.Eight.Codes.{codeLength}
+use Rattle.records.specs.Code.{eightOf}
 use Rattle.encoding.specs.Encode.{encodeAsked}
-use Rattle.records.specs.Vectors.{Hour, fvecsHour, blocksOf}
-use Rattle.records.specs.Laws.Asked.{CoderTaken, coder-accepted}
+use Rattle.records.specs.Eight.Vectors.{Hour, fvecsHour, blocksOf}
+use Rattle.records.specs.Eight.Asked.{CoderTaken, coder-accepted}
 use Rattle.encoding.specs.Laws.Encoded.{asked-is}
 use Rattle.records.specs.Laws.Frames.{Framed, record-framed}
-use Rattle.records.specs.Laws.Hours.{fvecs-count}
+use Rattle.records.specs.Eight.Hours.{fvecs-count}
 use Rattle.encoding.proofs.check_fvecs_hour.Statement.{statement}
 use Rattle.encoding.proofs.check_fvecs_hour.Tie as tie
 
@@ -33,8 +34,8 @@ module _ (c : tie.After-check-coder) where
   roomy = unless (leb (codeLength (natAbs (s .args .s .m)) (blocksOf h)) (s .args .room)) (Size 1)
 
   -- by what each says
-  decided : (v f w : Verdict) → c .check-coder .result ≡ v → h .frame ≡ f → roomy ≡ w → encodeAsked (s .args .s) (s .args .steps .now) h (s .args .room) ≡ firstRefusal (v ∷ f ∷ w ∷ [])
-  decided v f w d e g = asked-is (s .args .s) (s .args .steps .now) h (s .args .room) v f w (sym (c .check-coder .ensures) ∙ d) e g
+  decided : (v f w : Verdict) → c .check-coder .result ≡ v → h .frame ≡ f → roomy ≡ w → encodeAsked (eightOf (s .args .s)) (s .args .s) (s .args .steps .now) h (s .args .room) ≡ firstRefusal (v ∷ f ∷ w ∷ [])
+  decided v f w d e g = asked-is (eightOf (s .args .s)) (s .args .s) (s .args .steps .now) h (s .args .room) v f w (sym (c .check-coder .ensures) ∙ d) e g
 
 -- the settings and the steps are accepted
 module _ (c : tie.After-enum-told) where

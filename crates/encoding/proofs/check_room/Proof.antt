@@ -5,7 +5,7 @@ use native.Mathlib.Nat.{mul-le-mul}
 use native.Mathlib.Omega.{arith}
 use borrow.Author.Needs.{needs}
 use borrow.Author.Tests.{le-leb, lt-leb}
-use Rattle.records.specs.Codes.{codeLength}
+use Rattle.records.specs.Eight.Codes.{codeLength}
 use Rattle.encoding.proofs.check_room.Statement.{statement}
 use Rattle.encoding.proofs.check_room.Tie as tie
 

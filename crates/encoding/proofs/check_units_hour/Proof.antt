@@ -14,10 +14,11 @@ use Rattle.refusals.specs.declared.Verdict.{Verdict}
 use Rattle.refusals.specs.declared.Verdict.the-variants.{Accepted, Refused}
 use Rattle.refusals.specs.Laws.Verdicts.{first-last}
 use Rattle.refusals.specs.Verdicts.{unless, firstRefusal}
-use Rattle.records.specs.Codes.{codeLength}
+use Rattle.records.specs.Eight.Codes.{codeLength}
+use Rattle.records.specs.Code.{eightOf}
 use Rattle.encoding.specs.Encode.{encodeAsked}
-use Rattle.records.specs.Vectors.{Hour, unitsHour, checkReadings, blocksOf}
-use Rattle.records.specs.Laws.Asked.{CoderTaken, coder-accepted}
+use Rattle.records.specs.Eight.Vectors.{Hour, unitsHour, checkReadings, blocksOf}
+use Rattle.records.specs.Eight.Asked.{CoderTaken, coder-accepted}
 use Rattle.encoding.specs.Laws.Encoded.{asked-is}
 use Rattle.records.specs.Laws.Frames.{blocks-whole}
 use Rattle.encoding.proofs.check_units_hour.Statement.{statement}
@@ -40,8 +41,8 @@ module _ (c : tie.After-check-coder) where
   all asked = firstRefusal (asked ∷ checkReadings 0 (h .readings) ∷ [])
 
   -- by what each says
-  decided : (v f w : Verdict) → c .check-coder .result ≡ v → h .frame ≡ f → roomy ≡ w → all (encodeAsked (s .args .s) (s .args .steps .now) h (s .args .room)) ≡ all (firstRefusal (v ∷ f ∷ w ∷ []))
-  decided v f w d e g = ap all (asked-is (s .args .s) (s .args .steps .now) h (s .args .room) v f w (sym (c .check-coder .ensures) ∙ d) e g)
+  decided : (v f w : Verdict) → c .check-coder .result ≡ v → h .frame ≡ f → roomy ≡ w → all (encodeAsked (eightOf (s .args .s)) (s .args .s) (s .args .steps .now) h (s .args .room)) ≡ all (firstRefusal (v ∷ f ∷ w ∷ []))
+  decided v f w d e g = ap all (asked-is (eightOf (s .args .s)) (s .args .s) (s .args .steps .now) h (s .args .room) v f w (sym (c .check-coder .ensures) ∙ d) e g)
 
 -- the settings and the steps are accepted
 module _ (c : tie.After-enum-told) where

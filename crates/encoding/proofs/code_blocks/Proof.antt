@@ -19,7 +19,8 @@ use Rattle.layers.specs.Laws.Loops.{write-in}
 use Rattle.blocks.specs.Trials.{firstFitting, blockCode, triedRoom}
 use Rattle.blocks.specs.Laws.Theorems.{tried-block8}
 use Rattle.refusals.specs.Laws.Verdicts.{refused-never}
-use Rattle.records.specs.Codes.{blockSize}
+use Rattle.records.specs.Eight.Codes.{blockSize}
+use Rattle.records.specs.Code.{code8}
 use Rattle.encoding.specs.Encode.{checkFits, codeBytes}
 use Rattle.encoding.specs.Laws.Encode.{fits-next, fits-none, codeBytes-long, codeBytes-more}
 use Rattle.records.specs.Laws.Parts.{part-ends, cut-whole, cut-next, cut-long}
@@ -29,8 +30,8 @@ use Rattle.encoding.proofs.code_blocks.Tie as tie
 abbrev Inv-loop : tie.InvT-loop
 Inv-loop x steps q m k out₀ n i₀ out i =
     (i ≤ k) × (length out ≡ length out₀)
-    × (checkFits (natAbs (toZ w64 q)) m steps 0 (cut 8 k x) ≡ checkFits (natAbs (toZ w64 q)) m steps i (cut 8 (k - i) (drop (8 * i) x)))
-    × (out ≡ codeBytes (natAbs (toZ w64 q)) m steps (cut 8 i x) ++ drop (n * i) out₀)
+    × (checkFits (code8 (natAbs (toZ w64 q)) m) steps 0 (cut 8 k x) ≡ checkFits (code8 (natAbs (toZ w64 q)) m) steps i (cut 8 (k - i) (drop (8 * i) x)))
+    × (out ≡ codeBytes (code8 (natAbs (toZ w64 q)) m) steps (cut 8 i x) ++ drop (n * i) out₀)
 
 abbrev μ-loop : tie.MeasureT-loop
 μ-loop x steps q m k out₀ n i₀ out i = k - i
@@ -70,13 +71,13 @@ module _ (l : tie.At-loop Inv-loop μ-loop) where
   room : n * k ≤ length found
   room = subst (λ (t : ℕ). t * k ≤ length found) (sym n-is) (s .pre .5)
 
-  bytes-long : length (codeBytes q m steps (cut 8 i X)) ≡ n * i
+  bytes-long : length (codeBytes (code8 q m) steps (cut 8 i X)) ≡ n * i
   bytes-long = codeBytes-long q m steps (cut 8 i X) ∙ ap₂ _*_ (sym n-is) (cut-long 8 i X)
 
-  same : checkFits q m steps 0 (cut 8 k X) ≡ checkFits q m steps i (cut 8 (k - i) (drop (8 * i) X))
+  same : checkFits (code8 q m) steps 0 (cut 8 k X) ≡ checkFits (code8 q m) steps i (cut 8 (k - i) (drop (8 * i) X))
   same = simp (toZ-ofZ, s .fits .q) at (l .loop .inv .2)
 
-  out-is : l .loop .out ≡ codeBytes q m steps (cut 8 i X) ++ drop (n * i) found
+  out-is : l .loop .out ≡ codeBytes (code8 q m) steps (cut 8 i X) ++ drop (n * i) found
   out-is = simp (toZ-ofZ, s .fits .q) at (l .loop .inv .3)
 
 -- block i
@@ -102,8 +103,8 @@ module _ (b : tie.In-loop Inv-loop μ-loop) where
   abbrev rest : List (List ℤ)
   rest = cut 8 (k l - (i l + 1)) (drop (8 * (i l + 1)) (X l))
 
-  opened : checkFits (q l) (m l) (steps l) 0 (cut 8 (k l) (X l)) ≡ checkFits (q l) (m l) (steps l) (i l) (block ∷ rest)
-  opened = same l ∙ ap (checkFits (q l) (m l) (steps l) (i l)) (cut-next 8 (X l) (k l) (i l) (b .loop-test .taken))
+  opened : checkFits (code8 (q l) (m l)) (steps l) 0 (cut 8 (k l) (X l)) ≡ checkFits (code8 (q l) (m l)) (steps l) (i l) (block ∷ rest)
+  opened = same l ∙ ap (checkFits (code8 (q l) (m l)) (steps l) (i l)) (cut-next 8 (X l) (k l) (i l) (b .loop-test .taken))
 
 block-size-requires : tie.Need-block-size-requires Inv-loop μ-loop
 block-size-requires c κs = search needs
@@ -112,7 +113,7 @@ loop-holds : tie.Need-loop-holds Inv-loop μ-loop
 loop-holds c = let v = c .before .before .args in let z : 0 ≡ c .block-size .result * 0 = omega arith in (
   omega arith,
   refl,
-  ap (checkFits (natAbs (toZ w64 (ofZ w64 (v .q)))) (v .m) (v .steps .now) 0) (cut-whole 8 (v .x .now) (v .k)),
+  ap (checkFits (code8 (natAbs (toZ w64 (ofZ w64 (v .q)))) (v .m)) (v .steps .now) 0) (cut-whole 8 (v .x .now) (v .k)),
   ap (λ (j : ℕ). drop j (v .out .now)) z,
 )
 
@@ -186,9 +187,9 @@ module _ (c : tie.After-code-block Inv-loop μ-loop) where
       c .code-block .ensures .1 ∙ given (λ (q : ℕ) (x : List ℤ). triedRoom e8 nearest q (m at) 0 (steps at) x room)
       ∙ tried-block8 (s at .args .q) (m at) (steps at) (block b) (s at .pre .2) (s at .pre .1) (is-block b) h room
 
-  more-is : T < length (steps at) → putMid (n at * i at) (n at * i at + n at - n at * i at) (at .loop .out) part ≡ codeBytes (q at) (m at) (steps at) (cut 8 (i at + 1) (X at)) ++ drop (n at * (i at + 1)) (found at)
+  more-is : T < length (steps at) → putMid (n at * i at) (n at * i at + n at - n at * i at) (at .loop .out) part ≡ codeBytes (code8 (q at) (m at)) (steps at) (cut 8 (i at + 1) (X at)) ++ drop (n at * (i at + 1)) (found at)
   more-is h =
-      let code = blockCode e8 nearest (q at) (m at) (steps at) (block b) in let before = codeBytes (q at) (m at) (steps at) (cut 8 (i at) (X at)) in let a = n at * i at in
+      let code = blockCode e8 nearest (q at) (m at) (steps at) (block b) in let before = codeBytes (code8 (q at) (m at)) (steps at) (cut 8 (i at) (X at)) in let a = n at * i at in
       let next : a + n at ≡ n at * (i at + 1) = omega arith in
       ap₂ (λ (k : ℕ) (p : List ℕ). putMid a k (at .loop .out) p) (size b) (part-is h)
       ∙ ap (λ (x : List ℕ). take a x ++ (code ++ drop (n at) (drop a x))) (out-is at)
@@ -200,7 +201,7 @@ same-length c = search needs
 
 returns : tie.Need-returns Inv-loop μ-loop
 returns c = let a = c .before .before .before in let g = at a in
-    let none = fits-none (q g) (m g) (steps g) (i g) (block (b a)) (rest (b a)) (subst (λ (t : ℕ). length (steps g) ≤ t) (place-is a) (c .if1 .taken)) in
+    let none = fits-none (code8 (q g) (m g)) (steps g) (i g) (block (b a)) (rest (b a)) (subst (λ (t : ℕ). length (steps g) ≤ t) (place-is a) (c .if1 .taken)) in
     (sym (opened (b a) ∙ none), λ e. refused-never e)
 
 add-i : tie.Need-add-i Inv-loop μ-loop
@@ -214,7 +215,7 @@ loop-again c = let a = c .before .before .before in let g = at a in
     let h : T a < length (steps g) = subst (λ (t : ℕ). t < length (steps g)) (place-is a) (omega (arith, c .if1 .left)) in (
       omega arith,
       search needs,
-      simp (toZ-ofZ, s g .fits .q) (opened (b a) ∙ fits-next (q g) (m g) (steps g) (i g) (block (b a)) (rest (b a)) h ∙ ap (λ (j : ℕ). checkFits (q g) (m g) (steps g) j (rest (b a))) (sym (add-one (i g)))),
+      simp (toZ-ofZ, s g .fits .q) (opened (b a) ∙ fits-next (code8 (q g) (m g)) (steps g) (i g) (block (b a)) (rest (b a)) h ∙ ap (λ (j : ℕ). checkFits (code8 (q g) (m g)) (steps g) j (rest (b a))) (sym (add-one (i g)))),
       simp (toZ-ofZ, s g .fits .q) (more-is a h),
     )
 
@@ -224,8 +225,8 @@ same-length-2 c = search needs
 returns-2 : tie.Need-returns-2 Inv-loop μ-loop
 returns-2 c = let g = c .before in
     let all : i g ≡ k g = omega arith in let none : k g - i g ≡ 0 = omega arith in (
-      sym (same g ∙ ap (λ (j : ℕ). checkFits (q g) (m g) (steps g) (i g) (cut 8 j (drop (8 * i g) (X g)))) none),
-      λ e. out-is g ∙ ap₂ (λ (j t : ℕ). codeBytes (q g) (m g) (steps g) (cut 8 j (X g)) ++ drop (t * j) (found g)) all (n-is g),
+      sym (same g ∙ ap (λ (j : ℕ). checkFits (code8 (q g) (m g)) (steps g) (i g) (cut 8 j (drop (8 * i g) (X g)))) none),
+      λ e. out-is g ∙ ap₂ (λ (j t : ℕ). codeBytes (code8 (q g) (m g)) (steps g) (cut 8 j (X g)) ++ drop (t * j) (found g)) all (n-is g),
     )
 
 pub code-blocks-spec : {M : Type 1} → statement M

@@ -14,12 +14,13 @@ use Rattle.refusals.specs.declared.Verdict.{Verdict}
 use Rattle.refusals.specs.declared.Verdict.the-variants.{Accepted}
 use Rattle.refusals.specs.Answers.{valued, written}
 use Rattle.refusals.specs.Verdicts.{firstRefusal}
-use Rattle.records.specs.Codes.{Coder, codeLength}
+use Rattle.records.specs.Eight.Codes.{Coder, codeLength}
+use Rattle.records.specs.Code.{code8, eightOf}
 use Rattle.encoding.specs.Encode.{checkFits, codeRecord, encodeAsked}
-use Rattle.records.specs.Vectors.{Hour, fvecsHour, checkReadings, unitsTaken, inBlocks, UnitsTaken}
+use Rattle.records.specs.Eight.Vectors.{Hour, fvecsHour, checkReadings, unitsTaken, inBlocks, UnitsTaken}
 use Rattle.encoding.specs.Laws.Encoded.{EncodeTaken, asked-framed, encode-taken, encoded-is, encodedRoom-is, encoded-refused, encodedRoom-refused}
 use Rattle.records.specs.Laws.Frames.{Framed}
-use Rattle.records.specs.Laws.Hours.{fvecs-sound, fvecs-count}
+use Rattle.records.specs.Eight.Hours.{fvecs-sound, fvecs-count}
 use Rattle.encoding.proofs.encode.Statement.{statement}
 use Rattle.encoding.proofs.encode.Tie as tie
 
@@ -40,11 +41,11 @@ module _ (c : tie.After-enum-told) where
   abbrev out : List ℕ
   out = s .args .out .now
 
-  asked : encodeAsked (s .args .s) steps h (length out) ≡ Accepted
+  asked : encodeAsked (eightOf (s .args .s)) (s .args .s) steps h (length out) ≡ Accepted
   asked = sym (c .before .before .check-fvecs-hour .ensures) ∙ c .enum-told .given .1
 
   frame : Framed 4 8 1 64 b
-  frame = asked-framed (s .args .s) steps b (length out) asked
+  frame = asked-framed (eightOf (s .args .s)) (s .args .s) steps b (length out) asked
 
 -- where the readings were all taken
 module _ (c : tie.After-enum-told2) where
@@ -63,11 +64,11 @@ module _ (c : tie.After-enum-told2) where
   abbrev X : List ℤ
   X = unitsTaken (h t .readings)
 
-  accepted : firstRefusal (encodeAsked (s t .args .s) (steps t) (h t) (length (out t)) ∷ checkReadings 0 (h t .readings) ∷ []) ≡ Accepted
+  accepted : firstRefusal (encodeAsked (eightOf (s t .args .s)) (s t .args .s) (steps t) (h t) (length (out t)) ∷ checkReadings 0 (h t .readings) ∷ []) ≡ Accepted
   accepted = ap₂ (λ (v w : Verdict). firstRefusal (v ∷ w ∷ [])) (asked t) (sym (r .take-readings .ensures .0) ∙ c .enum-told2 .given .1)
 
-  taken : EncodeTaken (s t .args .s) (steps t) (h t) (length (out t))
-  taken = encode-taken (s t .args .s) (steps t) (h t) (length (out t)) (fvecs-sound (b t)) accepted
+  taken : EncodeTaken (eightOf (s t .args .s)) (s t .args .s) (steps t) (h t) (length (out t))
+  taken = encode-taken (eightOf (s t .args .s)) (s t .args .s) (steps t) (h t) (length (out t)) (fvecs-sound (b t)) accepted
 
   n-is : length X ≡ n
   n-is = taken .long ∙ fvecs-count (b t) ∙ sym (w .word-at .ensures)
@@ -160,12 +161,12 @@ put-record-requires c κs = let l = c .before in let d = told l in let e = taken
 returns : tie.Need-returns
 returns c = let a = c .before .before .before .before in let v = a .before .before .before .args in let h = fvecsHour (v .hour .now) in
     let e = ap (λ (w : Verdict). firstRefusal (w ∷ checkReadings 0 (h .readings) ∷ [])) (sym (a .check-fvecs-hour .ensures) ∙ c .before .before .r .given .1) in
-    (c .refused .ensures ∙ encoded-refused (v .s) (v .steps .now) h (v .out .now) _ e, encodedRoom-refused (v .s) (v .steps .now) h (v .out .now) _ e)
+    (c .refused .ensures ∙ encoded-refused (eightOf (v .s)) (v .s) (v .steps .now) h (v .out .now) _ e, encodedRoom-refused (eightOf (v .s)) (v .s) (v .steps .now) h (v .out .now) _ e)
 
 returns-2 : tie.Need-returns-2
 returns-2 c = let a = c .before .before .before .before .before in let d = a .before .before .before in let v = s d .args in
     let e = ap₂ (λ (v w : Verdict). firstRefusal (v ∷ w ∷ [])) (asked d) (sym (a .take-readings .ensures .0) ∙ c .before .before .r2 .given .1) in
-    (c .refused2 .ensures ∙ encoded-refused (v .s) (v .steps .now) (h d) (v .out .now) _ e, encodedRoom-refused (v .s) (v .steps .now) (h d) (v .out .now) _ e)
+    (c .refused2 .ensures ∙ encoded-refused (eightOf (v .s)) (v .s) (v .steps .now) (h d) (v .out .now) _ e, encodedRoom-refused (eightOf (v .s)) (v .s) (v .steps .now) (h d) (v .out .now) _ e)
 
 same-length : tie.Need-same-length
 same-length c = search needs
@@ -173,13 +174,13 @@ same-length c = search needs
 returns-3 : tie.Need-returns-3
 returns-3 c = let p = c .before .before in let l = p .before .before in let d = told l in let a = t d in let v = s a .args in (
   p .put-record .ensures .0
-      ∙ ap₂ (λ (q : ℤ) (m : ℕ). valued (checkFits (natAbs q) m (steps a) 0 (inBlocks (take (n d - 0) (room d)))) (pos (codeLength m (length (take (n d - 0) (room d)) / 8)))) (q-is l) (m-is l)
-      ∙ ap (λ (x : List ℤ). valued (checkFits (natAbs (v .s .q)) (natAbs (v .s .m)) (steps a) 0 (inBlocks x)) (pos (codeLength (natAbs (v .s .m)) (length x / 8)))) (x-is l)
-      ∙ encoded-is (v .s) (steps a) (h a) (out a) (accepted d) (X d) refl (taken d .long),
+      ∙ ap₂ (λ (q : ℤ) (m : ℕ). valued (checkFits (code8 (natAbs q) m) (steps a) 0 (inBlocks (take (n d - 0) (room d)))) (pos (codeLength m (length (take (n d - 0) (room d)) / 8)))) (q-is l) (m-is l)
+      ∙ ap (λ (x : List ℤ). valued (checkFits (code8 (natAbs (v .s .q)) (natAbs (v .s .m))) (steps a) 0 (inBlocks x)) (pos (codeLength (natAbs (v .s .m)) (length x / 8)))) (x-is l)
+      ∙ encoded-is (eightOf (v .s)) (v .s) (steps a) (h a) (out a) (accepted d) (X d) refl (taken d .long),
   p .put-record .ensures .1
-      ∙ ap₂ (λ (q : ℤ) (m : ℕ). written (checkFits (natAbs q) m (steps a) 0 (inBlocks (take (n d - 0) (room d)))) (codeRecord (natAbs q) m (steps a) (inBlocks (take (n d - 0) (room d)))) (out a)) (q-is l) (m-is l)
-      ∙ ap (λ (x : List ℤ). written (checkFits (natAbs (v .s .q)) (natAbs (v .s .m)) (steps a) 0 (inBlocks x)) (codeRecord (natAbs (v .s .q)) (natAbs (v .s .m)) (steps a) (inBlocks x)) (out a)) (x-is l)
-      ∙ encodedRoom-is (v .s) (steps a) (h a) (out a) (accepted d) (X d) refl (taken d .long),
+      ∙ ap₂ (λ (q : ℤ) (m : ℕ). written (checkFits (code8 (natAbs q) m) (steps a) 0 (inBlocks (take (n d - 0) (room d)))) (codeRecord (code8 (natAbs q) m) (steps a) (inBlocks (take (n d - 0) (room d)))) (out a)) (q-is l) (m-is l)
+      ∙ ap (λ (x : List ℤ). written (checkFits (code8 (natAbs (v .s .q)) (natAbs (v .s .m))) (steps a) 0 (inBlocks x)) (codeRecord (code8 (natAbs (v .s .q)) (natAbs (v .s .m))) (steps a) (inBlocks x)) (out a)) (x-is l)
+      ∙ encodedRoom-is (eightOf (v .s)) (v .s) (steps a) (h a) (out a) (accepted d) (X d) refl (taken d .long),
 )
 
 pub encode-spec : {M : Type 1} → statement M

@@ -13,11 +13,12 @@ use Rattle.refusals.specs.declared.Verdict.the-variants.{Accepted}
 use Rattle.refusals.specs.Answers.{valued, written}
 use Rattle.refusals.specs.Laws.Verdicts.{first-accepted}
 use Rattle.refusals.specs.Verdicts.{firstRefusal}
-use Rattle.records.specs.Codes.{Coder, codeLength}
+use Rattle.records.specs.Eight.Codes.{Coder, codeLength}
+use Rattle.records.specs.Code.{code8, eightOf}
 use Rattle.encoding.specs.Encode.{checkFits, codeRecord, encodeAsked}
-use Rattle.records.specs.Vectors.{Hour, unitsHour, checkReadings, unitsTaken, inBlocks, UnitsTaken}
+use Rattle.records.specs.Eight.Vectors.{Hour, unitsHour, checkReadings, unitsTaken, inBlocks, UnitsTaken}
 use Rattle.encoding.specs.Laws.Encoded.{EncodeTaken, encode-taken, encoded-is, encodedRoom-is, encoded-refused, encodedRoom-refused}
-use Rattle.records.specs.Laws.Hours.{units-sound, units-taken}
+use Rattle.records.specs.Eight.Hours.{units-sound, units-taken}
 use Rattle.encoding.proofs.encode_units.Statement.{statement}
 use Rattle.encoding.proofs.encode_units.Tie as tie
 
@@ -38,14 +39,14 @@ module _ (c : tie.After-enum-told) where
   abbrev out : List ℕ
   out = s .args .out .now
 
-  accepted : firstRefusal (encodeAsked (s .args .s) steps h (length out) ∷ checkReadings 0 (h .readings) ∷ []) ≡ Accepted
+  accepted : firstRefusal (encodeAsked (eightOf (s .args .s)) (s .args .s) steps h (length out) ∷ checkReadings 0 (h .readings) ∷ []) ≡ Accepted
   accepted = sym (c .before .before .check-units-hour .ensures) ∙ c .enum-told .given .1
 
-  taken : EncodeTaken (s .args .s) steps h (length out)
-  taken = encode-taken (s .args .s) steps h (length out) (units-sound x) accepted
+  taken : EncodeTaken (eightOf (s .args .s)) (s .args .s) steps h (length out)
+  taken = encode-taken (eightOf (s .args .s)) (s .args .s) steps h (length out) (units-sound x) accepted
 
   same : unitsTaken (h .readings) ≡ x
-  same = let r = first-accepted (encodeAsked (s .args .s) steps h (length out)) (checkReadings 0 (h .readings) ∷ []) accepted in units-taken 0 x (first-accepted (checkReadings 0 (h .readings)) [] (r .1) .0)
+  same = let r = first-accepted (encodeAsked (eightOf (s .args .s)) (s .args .s) steps h (length out)) (checkReadings 0 (h .readings) ∷ []) accepted in units-taken 0 x (first-accepted (checkReadings 0 (h .readings)) [] (r .1) .0)
 
   long : length x ≡ length (h .readings)
   long = sym (length-map x measureUnits)
@@ -93,17 +94,17 @@ put-record-requires c κs = let l = c .before in let t = told l in let e = taken
 returns : tie.Need-returns
 returns c = let a = c .before .before .before .before in let v = a .before .before .args in
     let e = sym (a .check-units-hour .ensures) ∙ c .before .before .r .given .1 in
-    (c .refused .ensures ∙ encoded-refused (v .s) (v .steps .now) (unitsHour (v .x .now)) (v .out .now) _ e, encodedRoom-refused (v .s) (v .steps .now) (unitsHour (v .x .now)) (v .out .now) _ e)
+    (c .refused .ensures ∙ encoded-refused (eightOf (v .s)) (v .s) (v .steps .now) (unitsHour (v .x .now)) (v .out .now) _ e, encodedRoom-refused (eightOf (v .s)) (v .s) (v .steps .now) (unitsHour (v .x .now)) (v .out .now) _ e)
 
 same-length : tie.Need-same-length
 same-length c = search needs
 
 returns-2 : tie.Need-returns-2
 returns-2 c = let p = c .before .before in let l = p .before .before in let t = told l in let v = s t .args in (
-  p .put-record .ensures .0 ∙ ap₂ (λ (q : ℤ) (m : ℕ). valued (checkFits (natAbs q) m (steps t) 0 (inBlocks (x t))) (pos (codeLength m (length (x t) / 8)))) (q-is l) (m-is l)
-      ∙ encoded-is (v .s) (steps t) (h t) (out t) (accepted t) (x t) (same t) (long t),
-  p .put-record .ensures .1 ∙ ap₂ (λ (q : ℤ) (m : ℕ). written (checkFits (natAbs q) m (steps t) 0 (inBlocks (x t))) (codeRecord (natAbs q) m (steps t) (inBlocks (x t))) (out t)) (q-is l) (m-is l)
-      ∙ encodedRoom-is (v .s) (steps t) (h t) (out t) (accepted t) (x t) (same t) (long t),
+  p .put-record .ensures .0 ∙ ap₂ (λ (q : ℤ) (m : ℕ). valued (checkFits (code8 (natAbs q) m) (steps t) 0 (inBlocks (x t))) (pos (codeLength m (length (x t) / 8)))) (q-is l) (m-is l)
+      ∙ encoded-is (eightOf (v .s)) (v .s) (steps t) (h t) (out t) (accepted t) (x t) (same t) (long t),
+  p .put-record .ensures .1 ∙ ap₂ (λ (q : ℤ) (m : ℕ). written (checkFits (code8 (natAbs q) m) (steps t) 0 (inBlocks (x t))) (codeRecord (code8 (natAbs q) m) (steps t) (inBlocks (x t))) (out t)) (q-is l) (m-is l)
+      ∙ encodedRoom-is (eightOf (v .s)) (v .s) (steps t) (h t) (out t) (accepted t) (x t) (same t) (long t),
 )
 
 pub encode-units-spec : {M : Type 1} → statement M

@@ -16,10 +16,11 @@ use Rattle.readings.specs.Words.{bytesOf}
 use Rattle.refusals.specs.declared.Verdict.{Verdict}
 use Rattle.refusals.specs.declared.Verdict.the-variants.{Accepted}
 use Rattle.refusals.specs.Answers.{valued, written}
-use Rattle.records.specs.Codes.{blockSize, codeLength}
+use Rattle.records.specs.Eight.Codes.{blockSize, codeLength}
+use Rattle.records.specs.Code.{code8}
 use Rattle.encoding.specs.Encode.{checkFits, codeBytes, codeRecord}
-use Rattle.records.specs.Vectors.{inBlocks}
-use Rattle.records.specs.Laws.Asked.{used-steps}
+use Rattle.records.specs.Eight.Vectors.{inBlocks}
+use Rattle.records.specs.Eight.Asked.{used-steps}
 use Rattle.encoding.specs.Laws.Encode.{codeBytes-long, codeRecord-long}
 use Rattle.records.specs.Laws.Parts.{cut-long, write-rest}
 use Rattle.records.specs.Laws.Frames.{Whole, blocks-whole}
@@ -46,7 +47,7 @@ module _ (s : tie.Start) where
   k = length X / 8
 
   abbrev bytes : List ℕ
-  bytes = codeBytes q m steps (inBlocks X)
+  bytes = codeBytes (code8 q m) steps (inBlocks X)
 
   whole : Whole 8 1 64 (length X)
   whole = blocks-whole 8 1 64 (length X) (s .pre .1 .whole)
@@ -57,7 +58,7 @@ module _ (s : tie.Start) where
   bytes-are : length bytes ≡ blockSize m * k
   bytes-are = codeBytes-long q m steps (inBlocks X) ∙ ap (λ (j : ℕ). blockSize m * j) (cut-long 8 k X)
 
-  record-is : codeRecord q m steps (inBlocks X) ≡ bytesOf (blockSize m * k) ++ bytes
+  record-is : codeRecord (code8 q m) steps (inBlocks X) ≡ bytesOf (blockSize m * k) ++ bytes
   record-is = ap (λ (j : ℕ). bytesOf (blockSize m * j) ++ bytes) (cut-long 8 k X)
 
 -- the blocks coded aside
@@ -68,8 +69,8 @@ module _ (c : tie.After-code-blocks) where
   abbrev code : List ℕ
   code = c .code-blocks .last .1 .1 .1 .1 .1 .0
 
-  verdict : c .code-blocks .result ≡ checkFits (q st) (m st) (steps st) 0 (inBlocks (X st))
-  verdict = c .code-blocks .ensures .0 ∙ ap (λ (z : ℤ). checkFits (natAbs z) (m st) (steps st) 0 (inBlocks (X st))) (toZ-ofZ (st .fits .q))
+  verdict : c .code-blocks .result ≡ checkFits (code8 (q st) (m st)) (steps st) 0 (inBlocks (X st))
+  verdict = c .code-blocks .ensures .0 ∙ ap (λ (z : ℤ). checkFits (code8 (natAbs z) (m st)) (steps st) 0 (inBlocks (X st))) (toZ-ofZ (st .fits .q))
 
 slice-aggregate-code-blocks : tie.Need-slice-aggregate-code-blocks
 slice-aggregate-code-blocks c = search needs
@@ -111,7 +112,7 @@ module _ (c : tie.After-block-size) where
   abbrev n : ℕ
   n = c .block-size .result
 
-  accepted : checkFits (q t) (m t) (steps t) 0 (inBlocks (X t)) ≡ Accepted
+  accepted : checkFits (code8 (q t) (m t)) (steps t) 0 (inBlocks (X t)) ≡ Accepted
   accepted = sym (verdict blocks) ∙ told .enum-told .given .1
 
   n-is : n * k t ≡ blockSize (m t) * k t
@@ -125,9 +126,9 @@ module _ (c : tie.After-block-size) where
 
   coded : take (n * k t) (code blocks) ≡ bytes t
   coded =
-      let z : ℤ = toZ w64 (ofZ w64 (t .args .q)) in let whole : codeBytes (natAbs z) (m t) (steps t) (inBlocks (X t)) ≡ bytes t = ap (λ (z : ℤ). codeBytes (natAbs z) (m t) (steps t) (inBlocks (X t))) (toZ-ofZ (t .fits .q)) in
+      let z : ℤ = toZ w64 (ofZ w64 (t .args .q)) in let whole : codeBytes (code8 (natAbs z) (m t)) (steps t) (inBlocks (X t)) ≡ bytes t = ap (λ (z : ℤ). codeBytes (code8 (natAbs z) (m t)) (steps t) (inBlocks (X t))) (toZ-ofZ (t .fits .q)) in
       ap (take (n * k t)) (blocks .code-blocks .ensures .1 (told .enum-told .given .1))
-      ∙ take-at (codeBytes (natAbs z) (m t) (steps t) (inBlocks (X t))) _ (n * k t) (ap length whole ∙ bytes-are t ∙ sym n-is)
+      ∙ take-at (codeBytes (code8 (natAbs z) (m t)) (steps t) (inBlocks (X t))) _ (n * k t) (ap length whole ∙ bytes-are t ∙ sym n-is)
       ∙ whole
 
 mul-put-word : tie.Need-mul-put-word
@@ -198,14 +199,14 @@ cast-t27 c = record { sfits = omega (arith, small (g (c .before .before))) }
 returns : tie.Need-returns
 returns c = let a = c .before .before .before .before .before in let s = st a in
     let r = sym (sym (verdict a) ∙ c .before .before .r .given .1) in
-    (c .refused .ensures ∙ ap (λ (v : Verdict). valued v (pos (codeLength (m s) (k s)))) r, ap (λ (v : Verdict). written v (codeRecord (q s) (m s) (steps s) (inBlocks (X s))) (found s)) r)
+    (c .refused .ensures ∙ ap (λ (v : Verdict). valued v (pos (codeLength (m s) (k s)))) r, ap (λ (v : Verdict). written v (codeRecord (code8 (q s) (m s)) (steps s) (inBlocks (X s))) (found s)) r)
 
 same-length : tie.Need-same-length
 same-length c = search needs
 
 returns-2 : tie.Need-returns-2
 returns-2 c = let p = c .before .before in let d = g p in let s = t d in
-    let f = codeRecord (q s) (m s) (steps s) (inBlocks (X s)) in let fits : SFits w64 (pos (4 + n d * k s)) = record { sfits = omega (arith, small d) } in (
+    let f = codeRecord (code8 (q s) (m s)) (steps s) (inBlocks (X s)) in let fits : SFits w64 (pos (4 + n d * k s)) = record { sfits = omega (arith, small d) } in (
       simp (toZ-ofZ, fits) (ap₂ (λ (v : Verdict) (j : ℕ). valued v (pos (4 + j))) (sym (accepted d)) (n-is d)),
       all-is p ∙ ap (λ (j : ℕ). (bytesOf j ++ bytes s) ++ drop (4 + j) (found s)) (n-is d)
           ∙ ap₂ (λ (r : List ℕ) (j : ℕ). r ++ drop j (found s)) (sym (record-is s)) (sym (codeRecord-long (q s) (m s) (steps s) (inBlocks (X s)) ∙ ap (codeLength (m s)) (cut-long 8 (k s) (X s))))

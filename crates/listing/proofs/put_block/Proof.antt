@@ -13,7 +13,7 @@ use mir.Facts.{toZ-ofZ, toZ-pos}
 use Rattle.integers.specs.Laws.Loops.{rest-whole}
 use Rattle.layers.specs.Digits.{IsCode, cut}
 use Rattle.layers.specs.E8.{decode8}
-use Rattle.records.specs.Codes.{stepOf, wholePoint}
+use Rattle.records.specs.Eight.Codes.{stepOf, wholePoint}
 use Rattle.listing.specs.Laws.Lengths.{Small, step-small, point-small, stepLine, layersLines, pointLine, listing-is, listing-long, listing-most}
 use Rattle.texts.specs.Laws.Rooms.{put-next}
 use Rattle.listing.specs.Listing.{line, layerLines}

@@ -14,9 +14,9 @@ use Rattle.blocks.specs.Trials.{blockCode}
 use Rattle.layers.specs.E8.{e8, nearest}
 use Rattle.refusals.specs.declared.settings.Settings.{Settings}
 use Rattle.refusals.specs.declared.Verdict.the-variants.{Accepted}
-use Rattle.records.specs.Codes.{Coder, IsBlock, blockSize}
-use Rattle.records.specs.Laws.Asked.{CoderTaken}
-use Rattle.records.specs.Vectors.{unitsHour}
+use Rattle.records.specs.Eight.Codes.{Coder, IsBlock, blockSize}
+use Rattle.records.specs.Eight.Asked.{CoderTaken}
+use Rattle.records.specs.Eight.Vectors.{unitsHour}
 use Rattle.listing.specs.Laws.Order.{shown-place, shown-taken, shown-block, shown-code, encoded-verdict, block-refused, block-accepted}
 use Rattle.listing.specs.Listing.{blockListing, checkShown, blockShown}
 use Rattle.listing.proofs.show_block.Statement.{statement}

@@ -18,7 +18,7 @@ use Rattle.refusals.specs.declared.Refusal.the-variants.{Settings as BadSetting
 use Rattle.refusals.specs.declared.Verdict.{Verdict}
 use Rattle.refusals.specs.declared.Verdict.the-variants.{Accepted, Refused}
 use Rattle.refusals.specs.Verdicts.{rowOf, spotOf, unless}
-use Rattle.records.specs.Codes.{Coder, IsBlock, stepOf, wholePoint}
+use Rattle.records.specs.Eight.Codes.{Coder, IsBlock, stepOf, wholePoint}
 use Rattle.listing.specs.Laws.Decimal.{decimal-long}
 use Rattle.listing.specs.Laws.Order.{shown-place, shown-taken, shown-block}
 use Rattle.texts.specs.Laws.Texts.{formed-counts}

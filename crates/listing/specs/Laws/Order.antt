@@ -29,11 +29,12 @@ use Rattle.refusals.specs.Limits.{mMost}
 use Rattle.refusals.specs.Settings.{goodSettings, checkSettings}
 use Rattle.refusals.specs.Steps.{goodSteps, checkSteps}
 use Rattle.refusals.specs.Verdicts.{spotOf, placeOf, unless, firstRefusal}
-use Rattle.records.specs.Codes.{IsBlock, blockSize, codeLength}
+use Rattle.records.specs.Eight.Codes.{IsBlock, blockSize, codeLength}
 use Rattle.records.specs.Frames.{wholeBlocks}
-use Rattle.records.specs.Laws.Asked.{CoderTaken, coder-taken, coder-positive, steps-positive}
-use Rattle.records.specs.Laws.Hours.{units-taken}
-use Rattle.records.specs.Vectors.{Hour, unitsHour, checkReadings, unitsTaken, blocksOf, inBlocks}
+use Rattle.records.specs.Eight.Asked.{CoderTaken, coder-taken, coder-positive, steps-positive}
+use Rattle.records.specs.Eight.Hours.{units-taken}
+use Rattle.records.specs.Eight.Vectors.{Hour, unitsHour, checkReadings, unitsTaken, blocksOf, inBlocks}
+use Rattle.records.specs.Code.{code8, eightOf}
 use Rattle.encoding.specs.Encode.{checkFits, codeBytes, codeRecord, encodeAsked, checkEncode, encoded, encodedRoom}
 use Rattle.encoding.specs.Laws.Encode.{fits-none}
 use Rattle.listing.specs.Listing.{blockListing, refusalLine, printed, checkShown, blockShown, shown}
@@ -58,7 +59,7 @@ unless-place : (b : Bool) (r : Refusal) → placeOf (unless b r) ≤ spotOf r
 unless-place true r = omega arith
 unless-place false r = omega arith
 
-fits-place : (q m : ℕ) (steps X : List ℤ) → placeOf (checkFits q m steps 0 (X ∷ [])) ≤ 0
+fits-place : (q m : ℕ) (steps X : List ℤ) → placeOf (checkFits (code8 q m) steps 0 (X ∷ [])) ≤ 0
 fits-place q m steps X = go (ltb (firstFitting e8 nearest q m steps X) (length steps))
   where
     go : (b : Bool) → placeOf (cond b Accepted (Refused (Overload 0))) ≤ 0
@@ -96,15 +97,15 @@ module _ (c : Settings) (steps X : List ℤ) (eight : length X ≡ 8) where
       ∙ ap (λ (b : Bool). unless b (Size 1)) (le-leb (codeLength m 1) (codeLength mMost 1) (omega (arith, checked-allowed c e .m-most)))
 
   -- the order of its refusals: 1, 2, 5 at the first reading that is out of range, 6
-  pub shown-order : checkShown c steps X ≡ firstRefusal (checkSettings c ∷ checkSteps 0 steps ∷ checkReadings 0 (map measureUnits X) ∷ checkFits q m steps 0 (X ∷ []) ∷ [])
+  pub shown-order : checkShown c steps X ≡ firstRefusal (checkSettings c ∷ checkSteps 0 steps ∷ checkReadings 0 (map measureUnits X) ∷ checkFits (code8 q m) steps 0 (X ∷ []) ∷ [])
   unfolding checkShown checkEncode encodeAsked
-  shown-order = in-order (checkSettings c) (checkSteps 0 steps) _ _ (checkReadings 0 (map measureUnits X)) _ (checkFits q m steps 0 (X ∷ [])) framed roomy
-      (λ e. ap (checkFits q m steps 0) (ap inBlocks (units-taken 0 X e) ∙ one-block))
+  shown-order = in-order (checkSettings c) (checkSteps 0 steps) _ _ (checkReadings 0 (map measureUnits X)) _ (checkFits (code8 q m) steps 0 (X ∷ [])) framed roomy
+      (λ e. ap (checkFits (code8 q m) steps 0) (ap inBlocks (units-taken 0 X e) ∙ one-block))
 
   -- a refusal's place is small
   pub shown-place : (r : Refusal) → checkShown c steps X ≡ Refused r → spotOf r ≤ 8
   shown-place r e =
-      let a : Verdict = checkSettings c in let b : Verdict = checkSteps 0 steps in let v : Verdict = checkReadings 0 (map measureUnits X) in let k : Verdict = checkFits q m steps 0 (X ∷ []) in
+      let a : Verdict = checkSettings c in let b : Verdict = checkSteps 0 steps in let v : Verdict = checkReadings 0 (map measureUnits X) in let k : Verdict = checkFits (code8 q m) steps 0 (X ∷ []) in
       let ha : placeOf a ≤ 0 = unless-place (goodSettings (c .q) (c .m)) BadSettings in let hb : placeOf b ≤ 0 = unless-place (goodSteps steps) (Steps 0) in
       let hv : placeOf v ≤ 0 + length (map measureUnits X) = readings-place 0 (map measureUnits X) in let hk : placeOf k ≤ 0 = fits-place q m steps X in
       omega (arith, first-place a b v k (omega arith) (omega arith) (omega (arith, length-map X measureUnits, eight)) (omega arith), ap placeOf (sym shown-order ∙ e))
@@ -112,9 +113,9 @@ module _ (c : Settings) (steps X : List ℤ) (eight : length X ≡ 8) where
   -- ---- where nothing is refused
 
   module _ (ok : checkShown c steps X ≡ Accepted) where
-    checked : (checkSettings c ≡ Accepted) × (checkSteps 0 steps ≡ Accepted) × (checkReadings 0 (map measureUnits X) ≡ Accepted) × (checkFits q m steps 0 (X ∷ []) ≡ Accepted)
+    checked : (checkSettings c ≡ Accepted) × (checkSteps 0 steps ≡ Accepted) × (checkReadings 0 (map measureUnits X) ≡ Accepted) × (checkFits (code8 q m) steps 0 (X ∷ []) ≡ Accepted)
     checked =
-        let b : Verdict = checkSteps 0 steps in let r : Verdict = checkReadings 0 (map measureUnits X) in let k : Verdict = checkFits q m steps 0 (X ∷ []) in
+        let b : Verdict = checkSteps 0 steps in let r : Verdict = checkReadings 0 (map measureUnits X) in let k : Verdict = checkFits (code8 q m) steps 0 (X ∷ []) in
         let s = first-accepted (checkSettings c) (b ∷ r ∷ k ∷ []) (sym shown-order ∙ ok) in let l = first-accepted b (r ∷ k ∷ []) (s .1) in
         let v = first-accepted r (k ∷ []) (l .1) in (s .0, l .0, v .0, first-accepted k [] (v .1) .0)
 
@@ -124,7 +125,7 @@ module _ (c : Settings) (steps X : List ℤ) (eight : length X ≡ 8) where
 
     fitting : firstFitting e8 nearest q m steps X < length steps
     fitting = elim (decLe (length steps) (firstFitting e8 nearest q m steps X)) [
-      | yes h ↦ refused-never (sym (fits-none q m steps 0 X [] h) ∙ checked .3)
+      | yes h ↦ refused-never (sym (fits-none (code8 q m) steps 0 X [] h) ∙ checked .3)
       | no h ↦ omega arith
     ]
 
@@ -140,19 +141,19 @@ module _ (c : Settings) (steps X : List ℤ) (eight : length X ≡ 8) where
     }
 
     -- and it stands after the dimension of the record that is left in fresh room
-    pub shown-code : take (blockSize m) (drop 4 (encodedRoom c steps (unitsHour X) (replicate 37 0))) ≡ code
+    pub shown-code : take (blockSize m) (drop 4 (encodedRoom (eightOf c) c steps (unitsHour X) (replicate 37 0))) ≡ code
     unfolding encodedRoom checkShown
     shown-code =
-        let n : ℕ = blockSize m in let rest : List (List ℤ) → List ℕ = λ l. drop (length (codeRecord q m steps l)) (replicate 37 0) in
+        let n : ℕ = blockSize m in let rest : List (List ℤ) → List ℕ = λ l. drop (length (codeRecord (code8 q m) steps l)) (replicate 37 0) in
         let one : inBlocks (unitsTaken (map measureUnits X)) ≡ X ∷ [] = ap inBlocks (units-taken 0 X (checked .2)) ∙ one-block in
-        ap (λ (v : Verdict). take n (drop 4 (written v (codeRecord q m steps (inBlocks (unitsTaken (map measureUnits X)))) (replicate 37 0)))) ok
-        ∙ ap (λ (l : List (List ℤ)). take n (codeBytes q m steps l ++ rest l)) one
+        ap (λ (v : Verdict). take n (drop 4 (written v (codeRecord (code8 q m) steps (inBlocks (unitsTaken (map measureUnits X)))) (replicate 37 0)))) ok
+        ∙ ap (λ (l : List (List ℤ)). take n (codeBytes (code8 q m) steps l ++ rest l)) one
         ∙ ap (λ (f : List ℕ). take n (f ++ rest (X ∷ []))) (append-nil code) ∙ take-at code (rest (X ∷ [])) n (block-long8 q m steps X)
 
 -- the answer's verdict is the operation's
-pub encoded-verdict : (c : Settings) (steps : List ℤ) (h : Hour) (room : ℕ) → encoded c steps h room .verdict ≡ checkEncode c steps h room
+pub encoded-verdict : (c : Settings) (steps : List ℤ) (h : Hour) (room : ℕ) → encoded (eightOf c) c steps h room .verdict ≡ checkEncode (eightOf c) c steps h room
 unfolding encoded
-encoded-verdict c steps h room = go (checkEncode c steps h room) (pos (codeLength (natAbs (c .m)) (blocksOf h)))
+encoded-verdict c steps h room = go (checkEncode (eightOf c) c steps h room) (pos (codeLength (natAbs (c .m)) (blocksOf h)))
   where
     go : (v : Verdict) (z : ℤ) → valued v z .verdict ≡ v
     go Accepted z = refl

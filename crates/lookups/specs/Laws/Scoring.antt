@@ -7,10 +7,10 @@ use native.Mathlib.Omega.{arith}
 use borrow.Author.Tests.{le-leb}
 use lib.IntN.{ℤ, pos, natAbs}
 use lib.ListN.{length}
-use Rattle.records.specs.Codes.{blockSize, blocksIn, codeBlocks, checkFrame, checkBlocks}
+use Rattle.records.specs.Eight.Codes.{blockSize, blocksIn, codeBlocks, checkFrame, checkBlocks}
 use Rattle.records.specs.Frames.{wholeBlocks, goodRecord}
-use Rattle.records.specs.Laws.Asked.{RecordTaken, record-taken}
-use Rattle.records.specs.Vectors.{Hour, checkReadings, blocksOf}
+use Rattle.records.specs.Eight.Asked.{RecordTaken, record-taken}
+use Rattle.records.specs.Eight.Vectors.{Hour, checkReadings, blocksOf}
 use Rattle.refusals.specs.declared.settings.Settings.{Settings}
 use Rattle.refusals.specs.declared.Refusal.the-variants.{Table, Size, Record}
 use Rattle.refusals.specs.declared.Verdict.{Verdict}
@@ -20,8 +20,8 @@ use Rattle.refusals.specs.Limits.{blocksMost}
 use Rattle.refusals.specs.Settings.{checkSettings}
 use Rattle.refusals.specs.Steps.{checkSteps}
 use Rattle.refusals.specs.Verdicts.{unless, firstRefusal}
-use Rattle.scores.specs.Laws.Pair.{PairTaken, pair-taken}
-use Rattle.scores.specs.Scores.{checkCode, checkPair, checkQuery}
+use Rattle.scores.specs.Eight.Pair.{PairTaken, pair-taken}
+use Rattle.scores.specs.Eight.Scores.{checkCode, checkPair, checkQuery}
 use Rattle.tables.specs.Filling.{checkTable, checkEntries}
 use Rattle.tables.specs.Laws.Filling.{table-taken, entries-taken}
 use Rattle.lookups.specs.Scoring.{checkPairBy, recordBy, checkQueryBy}
@@ -68,7 +68,7 @@ module _ (c : Settings) (steps : List ℤ) (b : List ℕ) (steps′ : List ℤ) 
 
   -- where q is 2 and the table is long enough, the order is that of the plain score
   pub pair-by-same : table ≡ Accepted → long ≡ Accepted → checkPairBy c steps b steps′ b′ room ≡ checkPair c steps b steps′ b′
-  unfolding checkPairBy checkPair
+  unfolding checkPairBy Rattle.scores.specs.Scores.checkPair
   pair-by-same e f = let before : List Verdict = checkSettings c ∷ checkSteps 0 steps ∷ checkSteps 1 steps′ ∷ [] in
       ap₂ (λ (t l : Verdict). firstRefusal (before ++ (t ∷ l ∷ here ∷ there ∷ []))) e f
       ∙ first-without before (Accepted ∷ here ∷ there ∷ []) ∙ first-without before (here ∷ there ∷ [])
@@ -132,7 +132,7 @@ module _ (m K : ℕ) (b : List ℕ) (count : blocksIn m b ≡ K) (some : 1 ≤ K
 
   -- so where the table is long enough, it is checked as in the plain score
   pub record-by-same : (steps q room : ℕ) → partSize q * K ≤ room → recordBy steps q m b room ≡ checkCode steps q m K K 0 0 b
-  unfolding recordBy checkCode
+  unfolding recordBy Rattle.scores.specs.Scores.checkCode
   record-by-same steps q room h =
       let bytes : Verdict = checkBlocks steps q (blockSize m) 0 (codeBlocks m b) in
       let long : checkEntries (partSize q * blocksIn m b) room ≡ Accepted = ap (λ (t : Bool). unless t (Size 2)) (le-leb (partSize q * blocksIn m b) room (subst (λ (k : ℕ). partSize q * k ≤ room) (sym count) h)) in
@@ -141,7 +141,7 @@ module _ (m K : ℕ) (b : List ℕ) (count : blocksIn m b ≡ K) (some : 1 ≤ K
 -- where q is one that the table is for and the query was taken, the order is that of the plain score
 pub query-by-same : (c : Settings) (steps : List ℤ) (h : Hour) (b : List ℕ) (room : ℕ) → let K = blocksOf h in blocksIn (natAbs (c .m)) b ≡ K → 1 ≤ K → K ≤ blocksMost → natAbs (c .q) ≤ queryMost
     → partSize (natAbs (c .q)) * K ≤ room → h .frame ≡ Accepted → checkReadings 0 (h .readings) ≡ Accepted → checkQueryBy c steps b room ≡ checkQuery c steps h b
-unfolding checkQueryBy checkQuery
+unfolding checkQueryBy Rattle.scores.specs.Scores.checkQuery
 query-by-same c steps h b room count some few most long e f =
     let q : ℕ = natAbs (c .q) in let m : ℕ = natAbs (c .m) in let K : ℕ = blocksOf h in let before : List Verdict = checkSettings c ∷ checkSteps 0 steps ∷ [] in
     let code : Verdict = checkCode (length steps) q m K K 0 0 b in let table : checkTable queryMost c ≡ Accepted = ap (λ (t : Bool). unless t Table) (le-leb q queryMost most) in

@@ -15,7 +15,7 @@ use Rattle.integers.specs.Vectors.{«at»}
 use Rattle.layers.specs.Digits.{IsLayer, IsLayers, cut}
 use Rattle.layers.specs.Laws.Weights.{layerSum-up}
 use Rattle.layers.specs.Sums.{layerSum, pairSum}
-use Rattle.records.specs.Codes.{stepOf}
+use Rattle.records.specs.Eight.Codes.{stepOf}
 use Rattle.records.specs.Laws.Parts.{cut-long, cut-at}
 use Rattle.refusals.specs.Limits.{mMost}
 use Rattle.scores.specs.Scores.{total}

@@ -8,10 +8,10 @@ use borrow.Author.Tests.{le-leb}
 use lib.IntN.{ℤ, pos, natAbs}
 use lib.ListN.{length, getD, drop, length-append}
 use Rattle.layers.specs.Digits.{IsCode}
-use Rattle.records.specs.Codes.{blocksIn, codeBlocks}
+use Rattle.records.specs.Eight.Codes.{blocksIn, codeBlocks}
 use Rattle.records.specs.Laws.Frames.{Whole, blocks-whole}
-use Rattle.records.specs.Laws.Hours.{Sound}
-use Rattle.records.specs.Vectors.{Hour, unitsTaken, blocksOf}
+use Rattle.records.specs.Eight.Hours.{Sound}
+use Rattle.records.specs.Eight.Vectors.{Hour, unitsTaken, blocksOf}
 use Rattle.refusals.specs.declared.settings.Settings.{Settings}
 use Rattle.refusals.specs.declared.Refusal.the-variants.{Table, Size}
 use Rattle.refusals.specs.declared.Verdict.{Verdict}
@@ -19,10 +19,10 @@ use Rattle.refusals.specs.declared.Verdict.the-variants.{Accepted, Refused}
 use Rattle.refusals.specs.Answers.{valued}
 use Rattle.refusals.specs.Limits.{blocksMost}
 use Rattle.refusals.specs.Verdicts.{unless}
-use Rattle.scores.specs.Laws.Asked.{taken-block}
-use Rattle.scores.specs.Laws.Pair.{pair-taken}
-use Rattle.scores.specs.Laws.Query.{query-taken}
-use Rattle.scores.specs.Scores.{pairTotal, queryTotal, checkPair, checkQuery, pairScore, queryScore}
+use Rattle.scores.specs.Eight.Asked.{taken-block}
+use Rattle.scores.specs.Eight.Pair.{pair-taken}
+use Rattle.scores.specs.Eight.Query.{query-taken}
+use Rattle.scores.specs.Eight.Scores.{pairTotal, queryTotal, checkPair, checkQuery, pairScore, queryScore}
 use Rattle.tables.specs.Filling.{checkTable, checkEntries, checkPairTable, pairTableRoom, checkQueryTable, queryTableRoom}
 use Rattle.tables.specs.Laws.Entries.{pairTable-long}
 use Rattle.tables.specs.Laws.Filling.{pair-table-taken}
@@ -42,7 +42,7 @@ valued-same (Refused r) x y h = refl
 -- the whole answer, refusals among them, is that of the plain score
 pub pair-score-same : (c : Settings) (steps : List ℤ) (b : List ℕ) (steps′ : List ℤ) (b′ : List ℕ) (rest : List ℤ) → c .q ≡ pos 2
     → pairScoreBy c steps b steps′ b′ (pairTable ++ rest) ≡ pairScore c steps b steps′ b′
-unfolding pairScoreBy pairScore
+unfolding pairScoreBy Rattle.scores.specs.Scores.pairScore
 pair-score-same c steps b steps′ b′ rest two =
     let t : List ℤ = pairTable ++ rest in let q : ℕ = natAbs (c .q) in let m : ℕ = natAbs (c .m) in let is : q ≡ 2 = ap natAbs two in
     let table : checkTable 2 c ≡ Accepted = ap (λ (t : Bool). unless t Table) (le-leb q 2 (omega arith)) in
@@ -66,7 +66,7 @@ pair-score-filled f out ok c steps b steps′ b′ e =
 -- over a table that was filled for the query with any settings of that q, the whole answer for a record of as many blocks is that of the plain score
 pub query-score-filled : (f : Settings) (h : Hour) (out : List ℤ) → Sound h → checkQueryTable f h (length out) ≡ Accepted → (c : Settings) (steps : List ℤ) (b : List ℕ) → c .q ≡ f .q
     → blocksIn (natAbs (c .m)) b ≡ blocksOf h → queryScoreBy c steps b (queryTableRoom f h out) ≡ queryScore c steps h b
-unfolding queryScoreBy queryScore
+unfolding queryScoreBy Rattle.scores.specs.Scores.queryScore
 query-score-filled f h out sound ok c steps b e same =
     let q : ℕ = natAbs (c .q) in let m : ℕ = natAbs (c .m) in let K : ℕ = blocksOf h in let X : List ℤ = unitsTaken (h .readings) in let t : List ℤ = queryTableRoom f h out in
     let k = fill-taken f h out sound ok in let w : Whole 8 1 blocksMost (length X) = blocks-whole 8 1 blocksMost (length X) (k .units .whole) in let n : length X / 8 ≡ K = ap (λ (n : ℕ). n / 8) (k .whole) in

@@ -4,7 +4,7 @@ use mathlib.Core.List.{List}
 use Prim.Native.Nat.{ℕ, _+_, _*_, _-_, _<_, _≤_}
 use native.Mathlib.Omega.{arith}
 use lib.ListN.{length, take, drop, replicate}
-use Rattle.records.specs.Codes.{blockSize}
+use Rattle.records.specs.Eight.Codes.{blockSize}
 use Rattle.points.specs.Laws.Folded.{layerOf, layer-of, laid-all}
 use Rattle.points.specs.Laws.Lanes.{Laid, laid-none, laid-more}
 use Rattle.records.specs.Laws.Parts.{part-ends}

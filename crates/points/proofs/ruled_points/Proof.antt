@@ -12,7 +12,7 @@ use mir.Facts.{toZ-ofZ}
 use Rattle.integers.specs.Laws.Loops.{range, rest-whole}
 use Rattle.columns.specs.Columns.{column}
 use Rattle.layers.specs.Digits.{cut}
-use Rattle.records.specs.Codes.{AreCodes, blockSize, wholePoint}
+use Rattle.records.specs.Eight.Codes.{AreCodes, blockSize, wholePoint}
 use Rattle.points.specs.Lanes.{BlockPoints}
 use Rattle.points.specs.Laws.LanePoints.{codes-from, group-more}
 use Rattle.points.specs.Laws.Points.{rows-long}

@@ -9,7 +9,7 @@ use Rattle.integers.specs.Vectors.{addV, scaleV}
 use Rattle.layers.specs.Digits.{IsLayer}
 use Rattle.layers.specs.E8.{e8, nearest, layerPoint8, decode8}
 use Rattle.layers.specs.Laws.Loops.{code-layer, decode-down}
-use Rattle.records.specs.Codes.{Digital}
+use Rattle.records.specs.Eight.Codes.{Digital}
 use Rattle.points.specs.Lanes.{Summable}
 use Rattle.points.specs.Laws.LanePoints.{two-digital, layer-narrow, above-narrow}
 use Rattle.points.proofs.table_point.Statement.{statement}

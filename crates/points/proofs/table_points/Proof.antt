@@ -7,7 +7,7 @@ use lib.IntN.{ℤ}
 use lib.ListN.{length, take, drop, set}
 use Rattle.layers.specs.Digits.{IsCode, cut}
 use Rattle.layers.specs.E8.{decode8}
-use Rattle.records.specs.Codes.{blockSize, wholePoint}
+use Rattle.records.specs.Eight.Codes.{blockSize, wholePoint}
 use Rattle.records.specs.Laws.Parts.{part-ends}
 use Rattle.points.specs.Laws.Points.{digits-part, rows-more, rows-long}
 use Rattle.points.proofs.table_points.Statement.{statement}

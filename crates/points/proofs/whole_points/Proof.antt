@@ -10,7 +10,7 @@ use mir.Val.{SFits, toZ}
 use mir.Facts.{toZ-ofZ}
 use Rattle.integers.specs.Laws.Sizes.{fits-mag}
 use Rattle.layers.specs.Digits.{cut}
-use Rattle.records.specs.Codes.{AreCodes, blockSize, wholePoint}
+use Rattle.records.specs.Eight.Codes.{AreCodes, blockSize, wholePoint}
 use Rattle.points.proofs.whole_points.Statement.{statement}
 use Rattle.points.proofs.whole_points.Tie as tie
 

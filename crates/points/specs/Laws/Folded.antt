@@ -16,7 +16,7 @@ use Rattle.layers.specs.E8.{e8, nearest, layerPoint8, decode8}
 use Rattle.layers.specs.Laws.Bases.{base-is, base-two}
 use Rattle.layers.specs.Laws.E8.{decode-in8}
 use Rattle.layers.specs.Laws.Loops.{code-layer, decode-down}
-use Rattle.records.specs.Codes.{Digital, AreCodes, wholePoint}
+use Rattle.records.specs.Eight.Codes.{Digital, AreCodes, wholePoint}
 use Rattle.records.specs.Laws.Parts.{part-ends}
 use Rattle.points.specs.Lanes.{blockAt, AllGathered, Taken, BlockPoints, wholeCoordinate, FoldedRows, Foldable, FoldableRows}
 use Rattle.points.specs.Laws.LanePoints.{cell, layer-narrow, above-narrow, lanes-layers}

@@ -20,7 +20,7 @@ use Rattle.layers.specs.Laws.Loops.{code-drop, code-layer, decode-down}
 use Rattle.layers.specs.Laws.Splitting.{layerPoint-in}
 use Rattle.layers.specs.Laws.Widths.{bounded-within, layerPoint-small, width-less}
 use Rattle.refusals.specs.Limits.{mMost, powerMost}
-use Rattle.records.specs.Codes.{Digital, AreCodes, blockSize, wholePoint}
+use Rattle.records.specs.Eight.Codes.{Digital, AreCodes, blockSize, wholePoint}
 use Rattle.points.specs.Lanes.{laneDigits, Gathered, LanePoints, BlockPoints, Summable, SummableRows, SummedRows}
 use Rattle.points.specs.Laws.Lanes.{lane-here, lane-code}
 use Rattle.records.specs.Laws.Parts.{cut-long, cut-add, cut-at}

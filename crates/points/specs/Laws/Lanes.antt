@@ -15,7 +15,7 @@ use Rattle.columns.specs.Columns.{column, Square8}
 use Rattle.layers.specs.Digits.{IsCode}
 use Rattle.columns.specs.Laws.Columns.{put-square, put-here, put-other}
 use Rattle.layers.specs.Laws.Rows.{below-all}
-use Rattle.records.specs.Codes.{AreCodes, blockSize}
+use Rattle.records.specs.Eight.Codes.{AreCodes, blockSize}
 use Rattle.points.specs.Lanes.{blockAt, laneDigits, LayerPut, Gathered}
 use Rattle.points.specs.Laws.Points.{digits-part}
 

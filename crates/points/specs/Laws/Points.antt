@@ -12,7 +12,7 @@ use Rattle.integers.specs.Vectors.{Sized}
 use Rattle.layers.specs.Digits.{IsCode, cut}
 use Rattle.layers.specs.Laws.Bases.{base-two}
 use Rattle.layers.specs.Laws.E8.{decode-in8, decode-under8}
-use Rattle.records.specs.Codes.{Digital, Coder, AreBlocks, AreCodes, blockSize, wholePoint}
+use Rattle.records.specs.Eight.Codes.{Digital, Coder, AreBlocks, AreCodes, blockSize, wholePoint}
 use Rattle.records.specs.Laws.Parts.{cut-more, cut-long, cut-at}
 
 -- a coder's q and m

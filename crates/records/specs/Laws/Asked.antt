@@ -26,6 +26,7 @@ use Rattle.coding.specs.Answers.{checkBelow}
 use Rattle.layers.specs.Digits.{Below, cut}
 use Rattle.coding.specs.Laws.Asked.{checked-allowed, allowed-base, below-taken, below-accepted}
 use Rattle.layers.specs.Laws.Bases.{base-two}
+use Rattle.records.specs.Code.{Code}
 use Rattle.records.specs.Codes.{Coder, IsBlock, AreBlocks, blockSize, blocksIn, codeBlocks, checkFrame, checkBlock, checkBlocks}
 use Rattle.records.specs.Laws.Codes.{block-opened}
 use Rattle.records.specs.Laws.Frames.{Framed, record-framed}
@@ -58,10 +59,16 @@ module _ (q : ℤ) (m : ℕ) (steps : List ℤ) (c : Coder q m steps) where
   pub steps-positive : (i : ℕ) → i < length steps → pos 0 <ℤ «at» steps i
   steps-positive i k = divisor-positive («at» steps i) (used-steps steps (c .listed) .each i k)
 
-module _ (steps q : ℕ) where
+module _ (steps : ℕ) (C : Code) where
+  abbrev q : ℕ
+  q = C .q
+
+  abbrev n : ℕ
+  n = blockSize C
+
   -- a block
-  block-taken : (m i : ℕ) (b : List ℕ) → length b ≡ blockSize m → checkBlock steps q i b ≡ Accepted → IsBlock steps q m b
-  block-taken m i b h e = let k = go (ltb (getD b 0 0) steps) (ltb-true (getD b 0 0) steps) (sym (block-opened steps q i b (omega arith)) ∙ e) in
+  block-taken : (i : ℕ) (b : List ℕ) → length b ≡ blockSize C → checkBlock steps q i b ≡ Accepted → IsBlock steps C b
+  block-taken i b h e = let k = go (ltb (getD b 0 0) steps) (ltb-true (getD b 0 0) steps) (sym (block-opened steps q i b (omega arith)) ∙ e) in
       record { long = h; first = k .0; code = record { long = simp length-drop (omega arith); below = k .1 } }
     where
       go : (t : Bool) → (t ≡ true → getD b 0 0 < steps) → cond t (checkBelow q (suc i) (drop 1 b)) (Refused (Byte i)) ≡ Accepted → (getD b 0 0 < steps) × Below q (drop 1 b)
@@ -69,47 +76,43 @@ module _ (steps q : ℕ) where
       go false f e = refused-never e
 
   -- and the other way: what is a block is accepted
-  block-accepted : (m i : ℕ) (b : List ℕ) → IsBlock steps q m b → checkBlock steps q i b ≡ Accepted
-  block-accepted m i b h =
+  block-accepted : (i : ℕ) (b : List ℕ) → IsBlock steps C b → checkBlock steps q i b ≡ Accepted
+  block-accepted i b h =
       block-opened steps q i b (omega (arith, h .long)) ∙ ap (λ (t : Bool). cond t (checkBelow q (suc i) (drop 1 b)) (Refused (Byte i))) (lt-ltb (getD b 0 0) steps (h .first))
       ∙ below-accepted q (suc i) (drop 1 b) (h .code .below)
 
   -- and blocks one after the other
-  pub blocks-accepted : (m n i : ℕ) (l : List (List ℕ)) → ((j : ℕ) → j < length l → IsBlock steps q m (getD l j [])) → checkBlocks steps q n i l ≡ Accepted
-  blocks-accepted m n i [] h = refl
-  blocks-accepted m n i (b ∷ l) h =
-      ap₂ (λ (v w : Verdict). firstRefusal (v ∷ w ∷ [])) (block-accepted m i b (h 0 (omega arith))) (blocks-accepted m n (i + n) l (λ j k. h (suc j) (omega arith)))
+  pub blocks-accepted : (n i : ℕ) (l : List (List ℕ)) → ((j : ℕ) → j < length l → IsBlock steps C (getD l j [])) → checkBlocks steps q n i l ≡ Accepted
+  blocks-accepted n i [] h = refl
+  blocks-accepted n i (b ∷ l) h =
+      ap₂ (λ (v w : Verdict). firstRefusal (v ∷ w ∷ [])) (block-accepted i b (h 0 (omega arith))) (blocks-accepted n (i + n) l (λ j k. h (suc j) (omega arith)))
 
-  module _ (m : ℕ) where
-    abbrev n : ℕ
-    n = blockSize m
+  -- each of k blocks
+  each-taken : (k i : ℕ) (f : List ℕ) → n * k ≤ length f → checkBlocks steps q n i (cut n k f) ≡ Accepted → (j : ℕ) → j < k → IsBlock steps C (take n (drop (n * j) f))
+  each-taken zero i f h e = λ j l. absurd (omega arith)
+  each-taken (suc k) i f h e =
+      let rest : Verdict = checkBlocks steps q n (i + n) (cut n k (drop n f)) in let t = first-accepted (checkBlock steps q i (take n f)) (rest ∷ []) e in
+      go (block-taken i (take n f) (simp length-take (omega arith)) (t .0)) (each-taken k (i + n) (drop n f) (simp length-drop (omega arith)) (sym (first-last rest) ∙ t .1))
+    where
+      go : IsBlock steps C (take n f) → ((j : ℕ) → j < k → IsBlock steps C (take n (drop (n * j) (drop n f)))) → (j : ℕ) → j < suc k → IsBlock steps C (take n (drop (n * j) f))
+      go here later zero l = let z : 0 ≡ n * 0 = omega arith in subst (λ (a : ℕ). IsBlock steps C (take n (drop a f))) z here
+      go here later (suc j) l = let s : n + n * j ≡ n * suc j = omega arith in
+          subst (λ (a : ℕ). IsBlock steps C (take n (drop a f))) s (subst (λ (g : List ℕ). IsBlock steps C (take n g)) (drop-drop (n * j) n f) (later j (omega arith)))
 
-    -- each of k blocks
-    each-taken : (k i : ℕ) (f : List ℕ) → n * k ≤ length f → checkBlocks steps q n i (cut n k f) ≡ Accepted → (j : ℕ) → j < k → IsBlock steps q m (take n (drop (n * j) f))
-    each-taken zero i f h e = λ j l. absurd (omega arith)
-    each-taken (suc k) i f h e =
-        let rest : Verdict = checkBlocks steps q n (i + n) (cut n k (drop n f)) in let t = first-accepted (checkBlock steps q i (take n f)) (rest ∷ []) e in
-        go (block-taken m i (take n f) (simp length-take (omega arith)) (t .0)) (each-taken k (i + n) (drop n f) (simp length-drop (omega arith)) (sym (first-last rest) ∙ t .1))
-      where
-        go : IsBlock steps q m (take n f) → ((j : ℕ) → j < k → IsBlock steps q m (take n (drop (n * j) (drop n f)))) → (j : ℕ) → j < suc k → IsBlock steps q m (take n (drop (n * j) f))
-        go here later zero l = let z : 0 ≡ n * 0 = omega arith in subst (λ (a : ℕ). IsBlock steps q m (take n (drop a f))) z here
-        go here later (suc j) l = let s : n + n * j ≡ n * suc j = omega arith in
-            subst (λ (a : ℕ). IsBlock steps q m (take n (drop a f))) s (subst (λ (g : List ℕ). IsBlock steps q m (take n g)) (drop-drop (n * j) n f) (later j (omega arith)))
-
-    -- k blocks
-    pub blocks-taken : (k i : ℕ) (f : List ℕ) → n * k ≤ length f → checkBlocks steps q n i (cut n k f) ≡ Accepted → AreBlocks steps q m k f
-    blocks-taken k i f h e = record { long = h; each = each-taken k i f h e }
+  -- k blocks
+  pub blocks-taken : (k i : ℕ) (f : List ℕ) → n * k ≤ length f → checkBlocks steps q n i (cut n k f) ≡ Accepted → AreBlocks steps C k f
+  blocks-taken k i f h e = record { long = h; each = each-taken k i f h e }
 
 -- a code record
-pub record RecordTaken (steps q m least most : ℕ) (b : List ℕ) : Type 0 where
-  pub frame : Framed 1 (blockSize m) least most b
-  pub blocks : AreBlocks steps q m (blocksIn m b) (drop 4 b)
+pub record RecordTaken (steps : ℕ) (C : Code) (least most : ℕ) (b : List ℕ) : Type 0 where
+  pub frame : Framed 1 (blockSize C) least most b
+  pub blocks : AreBlocks steps C (blocksIn C b) (drop 4 b)
 
 -- the blocks of a good frame are there
-pub frame-holds : (m least most : ℕ) (b : List ℕ) → Framed 1 (blockSize m) least most b → blockSize m * blocksIn m b ≤ length (drop 4 b)
-frame-holds m least most b h = simp length-drop (omega (arith, h .whole .times, h .complete))
+pub frame-holds : (C : Code) (least most : ℕ) (b : List ℕ) → Framed 1 (blockSize C) least most b → blockSize C * blocksIn C b ≤ length (drop 4 b)
+frame-holds C least most b h = simp length-drop (omega (arith, h .whole .times, h .complete))
 
 -- its two checks accept
-pub record-taken : (steps q m least most place i : ℕ) (b : List ℕ) → checkFrame m least most place b ≡ Accepted → checkBlocks steps q (blockSize m) i (codeBlocks m b) ≡ Accepted → RecordTaken steps q m least most b
-record-taken steps q m least most place i b e f = let h = record-framed 1 (blockSize m) least most b (unless-accepted _ (Record place) e) in
-    record { frame = h; blocks = blocks-taken steps q m (blocksIn m b) i (drop 4 b) (frame-holds m least most b h) f }
+pub record-taken : (steps : ℕ) (C : Code) (least most place i : ℕ) (b : List ℕ) → checkFrame C least most place b ≡ Accepted → checkBlocks steps (C .q) (blockSize C) i (codeBlocks C b) ≡ Accepted → RecordTaken steps C least most b
+record-taken steps C least most place i b e f = let h = record-framed 1 (blockSize C) least most b (unless-accepted _ (Record place) e) in
+    record { frame = h; blocks = blocks-taken steps C (blocksIn C b) i (drop 4 b) (frame-holds C least most b h) f }

@@ -9,6 +9,7 @@ use lib.ListN.{length, getD, take, drop, set, length-set, length-take, length-dr
 use lib.Seq.{getD-set-same, getD-set-other, getD-take, getD-drop}
 use Rattle.layers.specs.Digits.{Below, cut}
 use Rattle.layers.specs.Laws.Rows.{below-at, below-all}
+use Rattle.records.specs.Code.{code8}
 use Rattle.records.specs.Codes.{blockSize, IsBlock, AllAccepted, Raised}
 use Rattle.records.specs.Laws.Asked.{blocks-accepted}
 use Rattle.records.specs.Laws.Parts.{part-ends, cut-long, cut-at}
@@ -79,14 +80,14 @@ module _ (steps n m : ℕ) (f : List ℕ) where
   }
 
 -- all k blocks, with no fault, and all of `top` below q
-module _ (steps q m k i : ℕ) (f top : List ℕ) (h : blockSize m * k ≤ length f) (l : k ≤ i) (below : Below q top) (o : Glanced steps (blockSize m) m f i 0 top) where
+module _ (steps q m k i : ℕ) (f top : List ℕ) (h : blockSize (code8 q m) * k ≤ length f) (l : k ≤ i) (below : Below q top) (o : Glanced steps (blockSize (code8 q m)) m f i 0 top) where
   abbrev n : ℕ
-  n = blockSize m
+  n = blockSize (code8 q m)
 
   under : (x : ℕ) → Under top x → x < q
   under x u = omega (arith, u .2, below-at q top below (u .0) (omega (arith, u .1, o .long)))
 
-  good : (j : ℕ) → j < k → IsBlock steps q m (take n (drop (n * j) f))
+  good : (j : ℕ) → j < k → IsBlock steps (code8 q m) (take n (drop (n * j) f))
   good j w =
       let b : List ℕ = take n (drop (n * j) f) in let long : length b ≡ n = simp (length-take, length-drop) (omega (arith, part-ends n j k w)) in
       let byte : (d : ℕ) → d < n → getD b d 0 ≡ getD f (n * j + d) 0 = λ d v. getD-take n (drop (n * j) f) d 0 v ∙ getD-drop (n * j) f d 0 in
@@ -103,4 +104,4 @@ module _ (steps q m k i : ℕ) (f top : List ℕ) (h : blockSize m * k ≤ lengt
 
   -- they are accepted
   pub glanced-all : AllAccepted steps q n k f
-  glanced-all p = blocks-accepted steps q m n p (cut n k f) (λ j v. let w : j < k = omega (arith, cut-long n k f) in subst (IsBlock steps q m) (sym (cut-at n k j f w)) (good j w))
+  glanced-all p = blocks-accepted steps (code8 q m) n p (cut n k f) (λ j v. let w : j < k = omega (arith, cut-long n k f) in subst (IsBlock steps (code8 q m)) (sym (cut-at n k j f w)) (good j w))

@@ -41,26 +41,26 @@ units-small (measured.Missing ∷ l) h i = omega arith
 units-small (measured.OutOfRange ∷ l) h i = omega arith
 
 -- either form of an hour: its count is allowed where its frame is, and its readings are in range
-pub record Sound (h : Hour) : Type 0 where
-  pub counted : h .frame ≡ Accepted → wholeBlocks 8 1 blocksMost (length (h .readings)) ≡ true
+pub record Sound (n : ℕ) (h : Hour) : Type 0 where
+  pub counted : h .frame ≡ Accepted → wholeBlocks n 1 blocksMost (length (h .readings)) ≡ true
   pub ranged : Ranged (h .readings)
 
-pub units-sound : (x : List ℤ) → Sound (unitsHour x)
-units-sound x = record {
-  counted = λ e. ap (wholeBlocks 8 1 blocksMost) (length-map x measureUnits) ∙ unless-accepted _ (Size 0) e;
+pub units-sound : (n : ℕ) (x : List ℤ) → Sound n (unitsHour n x)
+units-sound n x = record {
+  counted = λ e. ap (wholeBlocks n 1 blocksMost) (length-map x measureUnits) ∙ unless-accepted _ (Size 0) e;
   ranged = map-ranged measureUnits units-in-range x;
 }
 
-pub fvecs-count : (b : List ℕ) → length (fvecsHour b .readings) ≡ wordAt b 0
-fvecs-count b = length-map (range 0 (wordAt b 0)) (λ (i : ℕ). measureAt b (4 + 4 * i)) ∙ range-long 0 (wordAt b 0)
+pub fvecs-count : (n : ℕ) (b : List ℕ) → length (fvecsHour n b .readings) ≡ wordAt b 0
+fvecs-count n b = length-map (range 0 (wordAt b 0)) (λ (i : ℕ). measureAt b (4 + 4 * i)) ∙ range-long 0 (wordAt b 0)
 
 -- its reading i is the pattern in that place
-pub fvecs-reading : (b : List ℕ) (i : ℕ) (d : Measured) → i < wordAt b 0 → getD (fvecsHour b .readings) i d ≡ measureAt b (4 + 4 * i)
-fvecs-reading b i d h = let f : ℕ → Measured = λ j. measureAt b (4 + 4 * j) in let z : 0 + i ≡ i = omega arith in range-at f 0 (wordAt b 0) i d h ∙ ap f z
+pub fvecs-reading : (n : ℕ) (b : List ℕ) (i : ℕ) (d : Measured) → i < wordAt b 0 → getD (fvecsHour n b .readings) i d ≡ measureAt b (4 + 4 * i)
+fvecs-reading n b i d h = let f : ℕ → Measured = λ j. measureAt b (4 + 4 * j) in let z : 0 + i ≡ i = omega arith in range-at f 0 (wordAt b 0) i d h ∙ ap f z
 
-pub fvecs-sound : (b : List ℕ) → Sound (fvecsHour b)
-fvecs-sound b = record {
-  counted = λ e. ap (wholeBlocks 8 1 blocksMost) (fvecs-count b) ∙ record-whole 4 8 1 blocksMost b (unless-accepted _ (Record 0) e);
+pub fvecs-sound : (n : ℕ) (b : List ℕ) → Sound n (fvecsHour n b)
+fvecs-sound n b = record {
+  counted = λ e. ap (wholeBlocks n 1 blocksMost) (fvecs-count n b) ∙ record-whole 4 n 1 blocksMost b (unless-accepted _ (Record 0) e);
   ranged = map-ranged (λ (i : ℕ). measureAt b (4 + 4 * i)) (λ i. float-in-range (ofBits binary32 (wordAt b (4 + 4 * i)))) (range 0 (wordAt b 0));
 }
 

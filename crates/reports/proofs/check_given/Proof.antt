@@ -15,7 +15,7 @@ use Rattle.refusals.specs.Settings.{checkSettings}
 use Rattle.refusals.specs.Steps.{checkSteps}
 use Rattle.refusals.specs.Verdicts.{unless, firstRefusal}
 use Rattle.reports.specs.Report.{checkGiven}
-use Rattle.records.specs.Vectors.{unitsHour, checkReadings}
+use Rattle.records.specs.Eight.Vectors.{unitsHour, checkReadings}
 use Rattle.reports.proofs.check_given.Statement.{statement}
 use Rattle.reports.proofs.check_given.Tie as tie
 

@@ -9,7 +9,8 @@ use mir.Val.{SFits}
 use mir.Facts.{toZ-ofZ}
 use Rattle.refusals.specs.declared.Verdict.{Verdict}
 use Rattle.refusals.specs.declared.Verdict.the-variants.{Accepted}
-use Rattle.records.specs.Codes.{Coder}
+use Rattle.records.specs.Eight.Codes.{Coder}
+use Rattle.records.specs.Code.{code8}
 use Rattle.encoding.specs.Encode.{checkFits}
 use Rattle.reports.specs.Laws.Report.{Given, given-taken, report-refused, report-last}
 use Rattle.reports.specs.Report.{checkGiven, blockReport, reported, report}
@@ -72,7 +73,7 @@ returns-2 : tie.Need-returns-2
 unfolding report
 returns-2 c =
     let l = c .before in let t = told l in let v = s t .args .s in
-    let block : ℤ → ℕ → _ = λ q m. reported (checkFits (natAbs q) m (steps t) 0 (x t ∷ [])) (blockReport (natAbs q) m (steps t) (x t)) in
+    let block : ℤ → ℕ → _ = λ q m. reported (checkFits (code8 (natAbs q) m) (steps t) 0 (x t ∷ [])) (blockReport (natAbs q) m (steps t) (x t)) in
     c .report-block .ensures ∙ ap (λ (q : ℤ). block q (l .layers .result)) (toZ-ofZ (fits l)) ∙ ap₂ block (l .before .base .ensures) (l .layers .ensures)
     ∙ ap (λ (w : Verdict). reported w (blockReport (natAbs (v .q)) (natAbs (v .m)) (steps t) (x t))) (sym (report-last v (steps t) (x t) (accepted t)))
 

@@ -18,9 +18,10 @@ use Rattle.layers.specs.Digits.{IsCode}
 use Rattle.layers.specs.E8.{e8, nearest, decode8}
 use Rattle.refusals.specs.declared.Verdict.{Verdict}
 use Rattle.refusals.specs.declared.Verdict.the-variants.{Accepted}
-use Rattle.records.specs.Codes.{stepOf, wholePoint}
+use Rattle.records.specs.Eight.Codes.{stepOf, wholePoint}
+use Rattle.records.specs.Code.{code8}
 use Rattle.encoding.specs.Laws.Encode.{fits-next, fits-none}
-use Rattle.records.specs.Laws.Asked.{used-steps}
+use Rattle.records.specs.Eight.Asked.{used-steps}
 use Rattle.reports.specs.Laws.Report.{block-code, block-reportable}
 use Rattle.reports.specs.Report.{Reportables, readingReports, blockReport, reported}
 use Rattle.reports.proofs.report_block.Statement.{statement}
@@ -102,7 +103,7 @@ refused-report-requires c κs = search needs
 returns : tie.Need-returns
 returns c = let k = c .before .before .before in let b = s k in
     c .refused-report .ensures
-    ∙ ap (λ (v : Verdict). reported v (blockReport (q b) (m b) (steps b) (x b))) (sym (fits-none (q b) (m b) (steps b) 0 (x b) [] (omega (arith, t-is k, c .before .if1 .taken))))
+    ∙ ap (λ (v : Verdict). reported v (blockReport (q b) (m b) (steps b) (x b))) (sym (fits-none (code8 (q b) (m b)) (steps b) 0 (x b) [] (omega (arith, t-is k, c .before .if1 .taken))))
 
 -- where a step fits
 module _ (c : tie.Else1) where
@@ -182,7 +183,7 @@ returns-2 : tie.Need-returns-2
 returns-2 c =
     let a = c .before .before in let v = b (d a) in
     let readings : c .report-readings .result ≡ blockReport (q v) (m v) (steps v) (x v) = (simp (toZ-ofZ, fz a, gz a) at (c .report-readings .ensures)) ∙ ap₂ (readingReports (x v)) (step-is a) (point-is (a .before)) in
-    ap (reported Accepted) readings ∙ ap (λ (w : Verdict). reported w (blockReport (q v) (m v) (steps v) (x v))) (sym (fits-next (q v) (m v) (steps v) 0 (x v) [] (fitting (here (d a)))))
+    ap (reported Accepted) readings ∙ ap (λ (w : Verdict). reported w (blockReport (q v) (m v) (steps v) (x v))) (sym (fits-next (code8 (q v) (m v)) (steps v) 0 (x v) [] (fitting (here (d a)))))
 
 pub report-block-spec : {M : Type 1} → statement M
 report-block-spec =

@@ -33,13 +33,14 @@ use Rattle.refusals.specs.Laws.Verdicts.{refused-never, unless-accepted, first-
 use Rattle.refusals.specs.Settings.{checkSettings}
 use Rattle.refusals.specs.Steps.{checkSteps}
 use Rattle.refusals.specs.Verdicts.{unless, firstRefusal}
-use Rattle.records.specs.Codes.{Coder, stepOf, wholePoint}
+use Rattle.records.specs.Eight.Codes.{Coder, stepOf, wholePoint}
+use Rattle.records.specs.Code.{code8}
 use Rattle.encoding.specs.Encode.{checkFits}
-use Rattle.records.specs.Laws.Asked.{CoderTaken, coder-taken, coder-positive, steps-positive}
+use Rattle.records.specs.Eight.Asked.{CoderTaken, coder-taken, coder-positive, steps-positive}
 use Rattle.encoding.specs.Laws.Encode.{fits-none}
-use Rattle.records.specs.Laws.Hours.{units-sound, units-small, units-taken}
+use Rattle.records.specs.Eight.Hours.{units-sound, units-small, units-taken}
 use Rattle.reports.specs.Report.{checkReport, blockReport, reported, report, checkGiven, Reportables}
-use Rattle.records.specs.Vectors.{unitsHour, checkReadings}
+use Rattle.records.specs.Eight.Vectors.{unitsHour, checkReadings}
 
 -- what was given and not refused: allowed settings, steps to code with, and a block
 pub record Given (c : Settings) (steps x : List ℤ) : Type 0 where
@@ -54,7 +55,7 @@ module _ (c : Settings) (steps x : List ℤ) where
   taken = checkReadings 0 (unitsHour x .readings)
 
   abbrev fitting : Verdict
-  fitting = checkFits (natAbs (c .q)) (natAbs (c .m)) steps 0 (x ∷ [])
+  fitting = checkFits (code8 (natAbs (c .q)) (natAbs (c .m))) steps 0 (x ∷ [])
 
   pub given-taken : checkGiven c steps x ≡ Accepted → Given c steps x
   given-taken e =
@@ -143,7 +144,7 @@ module _ (c : Settings) (steps x : List ℤ) (ok : checkReport c steps x ≡ Acc
 
   fits : firstFitting e8 nearest q m steps x < length steps
   fits = elim (decLe (length steps) (firstFitting e8 nearest q m steps x)) [
-    | yes h ↦ refused-never (sym (fits-none q m steps 0 x [] h) ∙ checked .1)
+    | yes h ↦ refused-never (sym (fits-none (code8 q m) steps 0 x [] h) ∙ checked .1)
     | no h ↦ omega arith
   ]
 

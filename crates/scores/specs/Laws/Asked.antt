@@ -6,6 +6,7 @@ use Prim.Native.Nat.{ℕ, _<_}
 use native.Mathlib.Omega.{arith}
 use lib.IntN.{ℤ}
 use lib.ListN.{length, getD, drop}
+use Rattle.records.specs.Code.{Code}
 use Rattle.records.specs.Codes.{IsBlock, blockSize, blocksIn, codeBlocks, checkFrame, checkBlocks}
 use Rattle.records.specs.Frames.{wholeBlocks, goodRecord}
 use Rattle.records.specs.Laws.Asked.{CoderTaken, coder-taken, RecordTaken, record-taken}
@@ -26,46 +27,46 @@ use Rattle.scores.specs.Hours.{checkHour, unitsFront, hourRoom}
 use Rattle.scores.specs.Scores.{checkCode}
 
 -- a code record
-pub code-taken : (steps q m least most place first : ℕ) (b : List ℕ) → checkCode steps q m least most place first b ≡ Accepted → RecordTaken steps q m least most b
+pub code-taken : (steps : ℕ) (C : Code) (least most place first : ℕ) (b : List ℕ) → checkCode steps C least most place first b ≡ Accepted → RecordTaken steps C least most b
 unfolding checkCode
-code-taken steps q m least most place first b e =
-    let bytes : Verdict = checkBlocks steps q (blockSize m) first (codeBlocks m b) in let f = first-accepted (checkFrame m least most place b) (bytes ∷ []) e in
-    record-taken steps q m least most place first b (f .0) (first-accepted bytes [] (f .1) .0)
+code-taken steps C least most place first b e =
+    let bytes : Verdict = checkBlocks steps (C .q) (blockSize C) first (codeBlocks C b) in let f = first-accepted (checkFrame C least most place b) (bytes ∷ []) e in
+    record-taken steps C least most place first b (f .0) (first-accepted bytes [] (f .1) .0)
 
 -- its block i
-pub taken-block : (steps q m least most : ℕ) (b : List ℕ) → RecordTaken steps q m least most b → (i : ℕ) → i < blocksIn m b → IsBlock steps q m (getD (codeBlocks m b) i [])
-taken-block steps q m least most b h i k = subst (IsBlock steps q m) (sym (cut-at (blockSize m) (blocksIn m b) i (drop 4 b) k)) (h .blocks .each i k)
+pub taken-block : (steps : ℕ) (C : Code) (least most : ℕ) (b : List ℕ) → RecordTaken steps C least most b → (i : ℕ) → i < blocksIn C b → IsBlock steps C (getD (codeBlocks C b) i [])
+taken-block steps C least most b h i k = subst (IsBlock steps C) (sym (cut-at (blockSize C) (blocksIn C b) i (drop 4 b) k)) (h .blocks .each i k)
 
 -- of exactly K blocks
-pub exact-blocks : (m K : ℕ) (b : List ℕ) → Framed 1 (blockSize m) K K b → blocksIn m b ≡ K
-exact-blocks m K b h = omega (arith, h .whole .some, h .whole .few)
+pub exact-blocks : (C : Code) (K : ℕ) (b : List ℕ) → Framed 1 (blockSize C) K K b → blocksIn C b ≡ K
+exact-blocks C K b h = omega (arith, h .whole .some, h .whole .few)
 
 -- so one of another number of blocks is refused by its place, whatever its bytes are
-pub other-refused : (steps q m K place first : ℕ) (b : List ℕ) → (blocksIn m b ≡ K → ⊥) → checkCode steps q m K K place first b ≡ Refused (Record place)
+pub other-refused : (steps : ℕ) (C : Code) (K place first : ℕ) (b : List ℕ) → (blocksIn C b ≡ K → ⊥) → checkCode steps C K K place first b ≡ Refused (Record place)
 unfolding checkCode
-other-refused steps q m K place first b apart = go (goodRecord 1 (blockSize m) K K b) (record-framed 1 (blockSize m) K K b)
+other-refused steps C K place first b apart = go (goodRecord 1 (blockSize C) K K b) (record-framed 1 (blockSize C) K K b)
   where
-    go : (f : Bool) → (f ≡ true → Framed 1 (blockSize m) K K b) → firstRefusal (unless f (Record place) ∷ checkBlocks steps q (blockSize m) first (codeBlocks m b) ∷ []) ≡ Refused (Record place)
-    go true h = absurd (apart (exact-blocks m K b (h refl)))
+    go : (f : Bool) → (f ≡ true → Framed 1 (blockSize C) K K b) → firstRefusal (unless f (Record place) ∷ checkBlocks steps (C .q) (blockSize C) first (codeBlocks C b) ∷ []) ≡ Refused (Record place)
+    go true h = absurd (apart (exact-blocks C K b (h refl)))
     go false h = refl
 
 -- an hour
-pub record HourTaken (c : Settings) (steps : List ℤ) (h : Hour) : Type 0 where
+pub record HourTaken (n : ℕ) (c : Settings) (steps : List ℤ) (h : Hour) : Type 0 where
   pub taken : CoderTaken c steps
-  pub units : UnitsTaken (unitsTaken (h .readings))
+  pub units : UnitsTaken n (unitsTaken (h .readings))
   pub long : length (unitsTaken (h .readings)) ≡ length (h .readings)
   pub readings : checkReadings 0 (h .readings) ≡ Accepted
 
 module _ (c : Settings) (steps : List ℤ) (h : Hour) where
-  pub hour-taken : Sound h → checkHour c steps h ≡ Accepted → HourTaken c steps h
+  pub hour-taken : (n : ℕ) → Sound n h → checkHour c steps h ≡ Accepted → HourTaken n c steps h
   unfolding checkHour
-  hour-taken sound e =
+  hour-taken n sound e =
       let readings : Verdict = checkReadings 0 (h .readings) in
       let s = first-accepted (checkSettings c) (checkSteps 0 steps ∷ h .frame ∷ readings ∷ []) e in let l = first-accepted (checkSteps 0 steps) (h .frame ∷ readings ∷ []) (s .1) in
       let f = first-accepted (h .frame) (readings ∷ []) (l .1) in let r = first-accepted readings [] (f .1) in let long = taken-all (h .readings) (r .0) in
       record {
         taken = coder-taken c 0 steps (s .0) (l .0);
-        units = record { whole = ap (wholeBlocks 8 1 64) long ∙ sound .counted (f .0); small = units-small (h .readings) (sound .ranged) };
+        units = record { whole = ap (wholeBlocks n 1 blocksMost) long ∙ sound .counted (f .0); small = units-small (h .readings) (sound .ranged) };
         long = long;
         readings = r .0;
       }
@@ -97,9 +98,9 @@ module _ (c : Settings) (steps : List ℤ) (h : Hour) where
       ap (λ (v : Verdict). unitsFront v (unitsTaken (h .readings)) x) (first-accepted (firstRefusal asked) (readings ∷ []) (sym (first-append asked (readings ∷ [])) ∙ e) .0)
 
 -- an fvecs record that was accepted
-pub hour-framed : (c : Settings) (steps : List ℤ) (b : List ℕ) → checkHour c steps (fvecsHour b) ≡ Accepted → Framed 4 8 1 blocksMost b
+pub hour-framed : (n : ℕ) (c : Settings) (steps : List ℤ) (b : List ℕ) → checkHour c steps (fvecsHour n b) ≡ Accepted → Framed 4 n 1 blocksMost b
 unfolding checkHour
-hour-framed c steps b e =
-    let h : Hour = fvecsHour b in let readings : Verdict = checkReadings 0 (h .readings) in
+hour-framed n c steps b e =
+    let h : Hour = fvecsHour n b in let readings : Verdict = checkReadings 0 (h .readings) in
     let s = first-accepted (checkSettings c) (checkSteps 0 steps ∷ h .frame ∷ readings ∷ []) e in let l = first-accepted (checkSteps 0 steps) (h .frame ∷ readings ∷ []) (s .1) in
-    record-framed 4 8 1 blocksMost b (unless-accepted _ (Record 0) (first-accepted (h .frame) (readings ∷ []) (l .1) .0))
+    record-framed 4 n 1 blocksMost b (unless-accepted _ (Record 0) (first-accepted (h .frame) (readings ∷ []) (l .1) .0))

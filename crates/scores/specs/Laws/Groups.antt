@@ -7,7 +7,7 @@ use lib.IntN.{ℤ, pos}
 use lib.ListN.{take, drop}
 use lib.Seq.{drop-drop}
 use Rattle.columns.specs.Columns.{column}
-use Rattle.records.specs.Codes.{blockSize, wholePoint}
+use Rattle.records.specs.Eight.Codes.{blockSize, wholePoint}
 use Rattle.points.specs.Lanes.{blockAt, BlockPoints}
 
 -- of k blocks those from i on that are in i's group

@@ -16,7 +16,7 @@ use Rattle.layers.specs.Laws.Theorems.{decode-in}
 use Rattle.layers.specs.Laws.Weights.{dot-decode, dot-decodes}
 use Rattle.layers.specs.Layers.{decode}
 use Rattle.layers.specs.Sums.{layerSum, pairSum}
-use Rattle.records.specs.Codes.{wholePoint}
+use Rattle.records.specs.Eight.Codes.{wholePoint}
 use Rattle.scores.specs.Laws.Inner.{inner-four}
 use Rattle.scores.specs.Scores.{inner}
 

@@ -2,8 +2,9 @@
 use mathlib.Core.Path.{_≡_, refl, sym, _∙_, ap, ap₂}
 use mathlib.Core.List.{List, [], _∷_}
 use Prim.Native.Nat.{ℕ, _/_}
-use lib.IntN.{ℤ, pos, natAbs}
+use lib.IntN.{ℤ, pos}
 use lib.ListN.{length}
+use Rattle.records.specs.Code.{Code, sizeOf}
 use Rattle.records.specs.Laws.Asked.{RecordTaken}
 use Rattle.records.specs.Laws.Hours.{Sound}
 use Rattle.records.specs.Vectors.{Hour, checkReadings, unitsTaken, blocksOf}
@@ -20,50 +21,47 @@ use Rattle.scores.specs.Hours.{checkHour}
 use Rattle.scores.specs.Laws.Asked.{code-taken, HourTaken, hour-taken}
 use Rattle.scores.specs.Scores.{queryTotal, checkCode, checkQuery, queryScore}
 
-module _ (c : Settings) (steps : List ℤ) (h : Hour) (b : List ℕ) where
-  abbrev q : ℕ
-  q = natAbs (c .q)
-
-  abbrev m : ℕ
-  m = natAbs (c .m)
+module _ (C : Code) (c : Settings) (steps : List ℤ) (h : Hour) (b : List ℕ) where
+  abbrev n : ℕ
+  n = sizeOf C
 
   -- the record, of K blocks
   abbrev code : ℕ → Verdict
-  code K = checkCode (length steps) q m K K 0 0 b
+  code K = checkCode (length steps) C K K 0 0 b
 
   -- the hour is checked first, then the record
-  opened : (v : Verdict) → checkHour c steps h ≡ v → checkQuery c steps h b ≡ firstRefusal (v ∷ code (blocksOf h) ∷ [])
+  opened : (v : Verdict) → checkHour c steps h ≡ v → checkQuery C c steps h b ≡ firstRefusal (v ∷ code (blocksOf n h) ∷ [])
   unfolding checkQuery checkHour
   opened v e =
-      first-append (checkSettings c ∷ checkSteps 0 steps ∷ h .frame ∷ checkReadings 0 (h .readings) ∷ []) (code (blocksOf h) ∷ [])
-      ∙ ap (λ (v : Verdict). firstRefusal (v ∷ code (blocksOf h) ∷ [])) e
+      first-append (checkSettings c ∷ checkSteps 0 steps ∷ h .frame ∷ checkReadings 0 (h .readings) ∷ []) (code (blocksOf n h) ∷ [])
+      ∙ ap (λ (v : Verdict). firstRefusal (v ∷ code (blocksOf n h) ∷ [])) e
 
-  pub query-refused : (r : Refusal) → checkHour c steps h ≡ Refused r → checkQuery c steps h b ≡ Refused r
+  pub query-refused : (r : Refusal) → checkHour c steps h ≡ Refused r → checkQuery C c steps h b ≡ Refused r
   query-refused r e = opened (Refused r) e
 
-  pub query-last : checkHour c steps h ≡ Accepted → checkQuery c steps h b ≡ code (blocksOf h)
-  query-last e = opened Accepted e ∙ first-last (code (blocksOf h))
+  pub query-last : checkHour c steps h ≡ Accepted → checkQuery C c steps h b ≡ code (blocksOf n h)
+  query-last e = opened Accepted e ∙ first-last (code (blocksOf n h))
 
   -- the answer where the hour is refused
-  pub queryScore-refused : (r : Refusal) → checkHour c steps h ≡ Refused r → valued (Refused r) (pos 0) ≡ queryScore c steps h b
+  pub queryScore-refused : (r : Refusal) → checkHour c steps h ≡ Refused r → valued (Refused r) (pos 0) ≡ queryScore C c steps h b
   unfolding queryScore
-  queryScore-refused r e = ap (λ (v : Verdict). valued v (queryTotal q m steps (unitsTaken (h .readings)) b)) (sym (query-refused r e))
+  queryScore-refused r e = ap (λ (v : Verdict). valued v (queryTotal C steps (unitsTaken (h .readings)) b)) (sym (query-refused r e))
 
   -- and where it is accepted, with X its units
   pub queryScore-is : checkHour c steps h ≡ Accepted → (X : List ℤ) → unitsTaken (h .readings) ≡ X → length X ≡ length (h .readings)
-      → valued (code (length X / 8)) (queryTotal q m steps X b) ≡ queryScore c steps h b
+      → valued (code (length X / n)) (queryTotal C steps X b) ≡ queryScore C c steps h b
   unfolding queryScore
-  queryScore-is e X same long = ap₂ (λ (v : Verdict) (X : List ℤ). valued v (queryTotal q m steps X b)) (ap (λ (n : ℕ). code (n / 8)) long ∙ sym (query-last e)) (sym same)
+  queryScore-is e X same long = ap₂ (λ (v : Verdict) (X : List ℤ). valued v (queryTotal C steps X b)) (ap (λ (k : ℕ). code (k / n)) long ∙ sym (query-last e)) (sym same)
 
 -- the hour and the record of an accepted query
-pub record QueryTaken (c : Settings) (steps : List ℤ) (h : Hour) (b : List ℕ) : Type 0 where
-  pub hour : HourTaken c steps h
-  pub code : RecordTaken (length steps) (natAbs (c .q)) (natAbs (c .m)) (blocksOf h) (blocksOf h) b
+pub record QueryTaken (C : Code) (c : Settings) (steps : List ℤ) (h : Hour) (b : List ℕ) : Type 0 where
+  pub hour : HourTaken (sizeOf C) c steps h
+  pub code : RecordTaken (length steps) C (blocksOf (sizeOf C) h) (blocksOf (sizeOf C) h) b
 
-pub query-taken : (c : Settings) (steps : List ℤ) (h : Hour) (b : List ℕ) → Sound h → checkQuery c steps h b ≡ Accepted → QueryTaken c steps h b
-query-taken c steps h b sound e =
-    let last : Verdict = code c steps h b (blocksOf h) in let t = first-accepted (checkHour c steps h) (last ∷ []) (sym (opened c steps h b (checkHour c steps h) refl) ∙ e) in
+pub query-taken : (C : Code) (c : Settings) (steps : List ℤ) (h : Hour) (b : List ℕ) → Sound (sizeOf C) h → checkQuery C c steps h b ≡ Accepted → QueryTaken C c steps h b
+query-taken C c steps h b sound e =
+    let K : ℕ = blocksOf (sizeOf C) h in let last : Verdict = code C c steps h b K in let t = first-accepted (checkHour c steps h) (last ∷ []) (sym (opened C c steps h b (checkHour c steps h) refl) ∙ e) in
     record {
-      hour = hour-taken c steps h sound (t .0);
-      code = code-taken (length steps) (natAbs (c .q)) (natAbs (c .m)) (blocksOf h) (blocksOf h) 0 0 b (first-accepted last [] (t .1) .0);
+      hour = hour-taken c steps h (sizeOf C) sound (t .0);
+      code = code-taken (length steps) C K K 0 0 b (first-accepted last [] (t .1) .0);
     }

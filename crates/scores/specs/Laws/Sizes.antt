@@ -15,12 +15,12 @@ use Rattle.layers.specs.Laws.Bases.{base-two}
 use Rattle.layers.specs.Laws.E8.{decode-in8, decode-small8}
 use Rattle.layers.specs.Laws.Widths.{width-less}
 use Rattle.layers.specs.Sizes.{width}
-use Rattle.records.specs.Codes.{Coder, IsBlock, stepOf, wholePoint}
-use Rattle.records.specs.Laws.Asked.{coder-positive}
+use Rattle.records.specs.Eight.Codes.{Coder, IsBlock, stepOf, wholePoint}
+use Rattle.records.specs.Eight.Asked.{coder-positive}
 use Rattle.points.specs.Laws.Points.{coder-digital, point-narrow}
 use Rattle.refusals.specs.Limits.{stepMost}
 use Rattle.scores.specs.Laws.Inner.{inner-size}
-use Rattle.scores.specs.Scores.{Scored, inner, blockPair, blockQuery}
+use Rattle.scores.specs.Eight.Scores.{Scored, inner, blockPair, blockQuery}
 
 -- an inner product of n entries up to A with n up to B is at most n A B
 pub dot-sized : (n A B : ℕ) (a b : List ℤ) → Sized n A a → Sized n B b → natAbs (dot a b) ≤ n * (A * B)
@@ -82,7 +82,7 @@ module _ (q : ℤ) (m : ℕ) where
       query-dot-small X k = dot-sized 8 (2 ^ 24) (2 * W) X e k point-sized
 
       pub blockQuery-small : (X : List ℤ) → Sized 8 (2 ^ 24) X → natAbs (blockQuery (natAbs q) m steps X b) ≤ queryPart
-      unfolding blockQuery
+      unfolding Rattle.scores.specs.Scores.blockQuery
       blockQuery-small X k = abs-mul-le (stepOf steps b) (dot X e) step-small (query-dot-small X k)
 
       -- so no more than this, whatever q and M are
@@ -110,7 +110,7 @@ module _ (q : ℤ) (m : ℕ) (steps steps′ : List ℤ) (c : Coder q m steps) (
   steps-small = abs-mul-le (stepOf steps b) (stepOf steps′ b′) (step-small q m steps c b h) (step-small q m steps′ c′ b′ h′)
 
   pub blockPair-small : natAbs (blockPair (natAbs q) m steps steps′ b b′) ≤ pairPart q m
-  unfolding blockPair
+  unfolding Rattle.scores.specs.Scores.blockPair
   blockPair-small = abs-mul-le (stepOf steps b *ℤ stepOf steps′ b′) (inner p p′) steps-small inner-small
 
   -- so no more than this, whatever q and M are

@@ -12,9 +12,9 @@ use lib.ListN.{length, getD, take, drop, length-take, length-drop}
 use lib.Seq.{drop-drop}
 use Rattle.layers.specs.Digits.{cut}
 use Rattle.readings.specs.Words.{wordAt}
-use Rattle.records.specs.Codes.{blockSize, blocksIn, codeBlocks, codeLength, checkBlocks}
+use Rattle.records.specs.Eight.Codes.{blockSize, blocksIn, codeBlocks, codeLength, checkBlocks}
 use Rattle.records.specs.Frames.{wholeBlocks, goodRecord}
-use Rattle.records.specs.Laws.Asked.{RecordTaken, blocks-accepted}
+use Rattle.records.specs.Eight.Asked.{RecordTaken, blocks-accepted}
 use Rattle.records.specs.Laws.Frames.{Framed, record-framed, whole-blocks, frame-good}
 use Rattle.records.specs.Laws.Parts.{cut-long, cut-at}
 use Rattle.refusals.specs.declared.Refusal.{Refusal}
@@ -23,8 +23,8 @@ use Rattle.refusals.specs.declared.Verdict.{Verdict}
 use Rattle.refusals.specs.declared.Verdict.the-variants.{Accepted, Refused}
 use Rattle.refusals.specs.Laws.Verdicts.{unless-accepted, first-accepted, first-last}
 use Rattle.refusals.specs.Verdicts.{unless, firstRefusal}
-use Rattle.scores.specs.Laws.Asked.{code-taken, taken-block, exact-blocks}
-use Rattle.scores.specs.Scores.{checkCode}
+use Rattle.scores.specs.Eight.Asked.{code-taken, taken-block, exact-blocks}
+use Rattle.scores.specs.Eight.Scores.{checkCode}
 use Rattle.stores.specs.Laws.Pieces.{count, pieces-hold, pieces-whole}
 use Rattle.stores.specs.Stores.{pieces, checkRecords, checkStore, recordAt, StoreTaken}
 
@@ -39,7 +39,7 @@ module _ (steps q m K : ℕ) where
 
   -- one that was taken is accepted in any place
   pub code-accepted : (place first : ℕ) (b : List ℕ) → RecordTaken steps q m K K b → checkCode steps q m K K place first b ≡ Accepted
-  unfolding checkCode
+  unfolding Rattle.scores.specs.Scores.checkCode
   code-accepted place first b h =
       let w = h .frame .whole in
       let whole : wholeBlocks (blockSize m) K K (wordAt b 0) ≡ true = ap (wholeBlocks (blockSize m) K K) (w .times) ∙ whole-blocks (blockSize m) K K (blocksIn m b) (omega arith) (w .some) (w .few) in
@@ -53,7 +53,7 @@ module _ (steps q m K : ℕ) where
 
   -- one that is shorter is refused by its place, whatever its bytes are
   short-refused : (place first : ℕ) (b : List ℕ) → length b < n → checkCode steps q m K K place first b ≡ Refused (Record place)
-  unfolding checkCode
+  unfolding Rattle.scores.specs.Scores.checkCode
   short-refused place first b short = go (goodRecord 1 (blockSize m) K K b) (record-framed 1 (blockSize m) K K b)
     where
       go : (f : Bool) → (f ≡ true → Framed 1 (blockSize m) K K b) → firstRefusal (unless f (Record place) ∷ checkBlocks steps q (blockSize m) first (codeBlocks m b) ∷ []) ≡ Refused (Record place)

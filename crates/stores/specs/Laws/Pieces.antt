@@ -8,10 +8,10 @@ use native.Mathlib.Omega.{arith}
 use lib.ListN.{length, take, drop, length-drop}
 use lib.Seq.{drop-drop}
 use Rattle.layers.specs.Digits.{cut}
-use Rattle.records.specs.Codes.{codeLength}
+use Rattle.records.specs.Eight.Codes.{codeLength}
 use Rattle.refusals.specs.declared.Verdict.the-variants.{Accepted}
 use Rattle.refusals.specs.Verdicts.{firstRefusal}
-use Rattle.scores.specs.Scores.{checkCode}
+use Rattle.scores.specs.Eight.Scores.{checkCode}
 use Rattle.stores.specs.Stores.{pieces, checkRecords}
 
 -- how many pieces of n bytes there are

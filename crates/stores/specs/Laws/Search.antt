@@ -4,8 +4,8 @@ use mathlib.Core.List.{List, [], _∷_}
 use Prim.Native.Nat.{ℕ, _/_}
 use lib.IntN.{ℤ, natAbs}
 use lib.ListN.{length}
-use Rattle.records.specs.Laws.Hours.{Sound}
-use Rattle.records.specs.Vectors.{Hour, checkReadings, unitsTaken, blocksOf}
+use Rattle.records.specs.Eight.Hours.{Sound}
+use Rattle.records.specs.Eight.Vectors.{Hour, checkReadings, unitsTaken, blocksOf}
 use Rattle.refusals.specs.declared.settings.Settings.{Settings}
 use Rattle.refusals.specs.declared.Refusal.{Refusal}
 use Rattle.refusals.specs.declared.Verdict.{Verdict}
@@ -15,7 +15,7 @@ use Rattle.refusals.specs.Settings.{checkSettings}
 use Rattle.refusals.specs.Steps.{checkSteps}
 use Rattle.refusals.specs.Verdicts.{firstRefusal}
 use Rattle.scores.specs.Hours.{checkHour}
-use Rattle.scores.specs.Laws.Asked.{HourTaken, hour-taken}
+use Rattle.scores.specs.Eight.Asked.{HourTaken, hour-taken}
 use Rattle.stores.specs.Laws.Asked.{store-taken}
 use Rattle.stores.specs.Stores.{checkStore, StoreTaken, bestOf, bestIn, checkBest, found, bestHour}
 

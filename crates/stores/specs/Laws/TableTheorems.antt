@@ -8,10 +8,10 @@ use lib.IntN.{ℤ, natAbs}
 use lib.ListN.{length, getD, drop}
 use Rattle.readings.specs.declared.Measured.{Measured}
 use Rattle.readings.specs.declared.Measured.the-variants as measured
-use Rattle.records.specs.Codes.{codeLength}
-use Rattle.records.specs.Laws.Hours.{Sound}
+use Rattle.records.specs.Eight.Codes.{codeLength}
+use Rattle.records.specs.Eight.Hours.{Sound}
 use Rattle.records.specs.Laws.Vectors.{AllUnits, first-missing, first-beyond}
-use Rattle.records.specs.Vectors.{Hour, checkReadings, unitsTaken, blocksOf}
+use Rattle.records.specs.Eight.Vectors.{Hour, checkReadings, unitsTaken, blocksOf}
 use Rattle.refusals.specs.declared.settings.Settings.{Settings}
 use Rattle.refusals.specs.declared.Refusal.{Refusal}
 use Rattle.refusals.specs.declared.Refusal.the-variants.{Table, Size, Missing, OutOfRange}
@@ -22,8 +22,8 @@ use Rattle.refusals.specs.Laws.Verdicts.{first-accepted, first-last, first-appe
 use Rattle.refusals.specs.Settings.{checkSettings}
 use Rattle.refusals.specs.Steps.{checkSteps}
 use Rattle.refusals.specs.Verdicts.{unless, firstRefusal}
-use Rattle.scores.specs.Laws.Asked.{HourTaken, hour-taken, taken-block, exact-blocks}
-use Rattle.scores.specs.Scores.{queryTotal}
+use Rattle.scores.specs.Eight.Asked.{HourTaken, hour-taken, taken-block, exact-blocks}
+use Rattle.scores.specs.Eight.Scores.{queryTotal}
 use Rattle.tables.specs.Filling.{lentAsked}
 use Rattle.tables.specs.Laws.Entries.{queryTable-long}
 use Rattle.lookups.specs.Laws.Same.{query-totals}

@@ -4,9 +4,9 @@ use mathlib.Core.List.{List, [], _∷_}
 use Prim.Native.Nat.{ℕ, _*_, _/_, _≤_}
 use lib.IntN.{ℤ, natAbs}
 use lib.ListN.{length}
-use Rattle.records.specs.Laws.Asked.{CoderTaken, coder-taken}
-use Rattle.records.specs.Laws.Hours.{Sound}
-use Rattle.records.specs.Vectors.{Hour, checkReadings, unitsTaken, blocksOf, UnitsTaken}
+use Rattle.records.specs.Eight.Asked.{CoderTaken, coder-taken}
+use Rattle.records.specs.Eight.Hours.{Sound}
+use Rattle.records.specs.Eight.Vectors.{Hour, checkReadings, unitsTaken, blocksOf, UnitsTaken}
 use Rattle.refusals.specs.declared.settings.Settings.{Settings}
 use Rattle.refusals.specs.declared.Refusal.{Refusal}
 use Rattle.refusals.specs.declared.Verdict.{Verdict}
@@ -17,7 +17,7 @@ use Rattle.refusals.specs.Settings.{checkSettings}
 use Rattle.refusals.specs.Steps.{checkSteps}
 use Rattle.refusals.specs.Verdicts.{firstRefusal}
 use Rattle.scores.specs.Hours.{checkHour}
-use Rattle.scores.specs.Laws.Asked.{hour-taken}
+use Rattle.scores.specs.Eight.Asked.{hour-taken}
 use Rattle.tables.specs.Filling.{checkTable, checkEntries, lentAsked}
 use Rattle.tables.specs.Laws.Filling.{table-taken, entries-taken}
 use Rattle.tables.specs.Tables.{queryMost, partSize, queryTable}

@@ -14,11 +14,11 @@ use Rattle.layers.specs.Digits.{cut}
 use Rattle.readings.specs.declared.Measured.{Measured}
 use Rattle.readings.specs.declared.Measured.the-variants as measured
 use Rattle.readings.specs.Words.{wordAt, measureAt}
-use Rattle.records.specs.Codes.{codeLength}
-use Rattle.records.specs.Laws.Hours.{Sound, fvecs-count, fvecs-reading, word-missing}
+use Rattle.records.specs.Eight.Codes.{codeLength}
+use Rattle.records.specs.Eight.Hours.{Sound, fvecs-count, fvecs-reading, word-missing}
 use Rattle.records.specs.Laws.Parts.{cut-long, cut-at}
 use Rattle.records.specs.Laws.Vectors.{AllUnits, first-missing, first-beyond}
-use Rattle.records.specs.Vectors.{Hour, fvecsHour, unitsTaken, blocksOf}
+use Rattle.records.specs.Eight.Vectors.{Hour, fvecsHour, unitsTaken, blocksOf}
 use Rattle.refusals.specs.declared.Answer.{Answer}
 use Rattle.refusals.specs.declared.settings.Settings.{Settings}
 use Rattle.refusals.specs.declared.Refusal.the-variants.{Missing, OutOfRange, EmptyStore}
@@ -30,8 +30,8 @@ use Rattle.refusals.specs.Steps.{checkSteps}
 use Rattle.refusals.specs.Verdicts.{firstRefusal}
 use Rattle.scores.specs.Hours.{checkHour}
 use Rattle.scores.specs.Laws.Asked.{hour-last}
-use Rattle.scores.specs.Laws.Query.{query-last}
-use Rattle.scores.specs.Scores.{queryTotal, queryScore}
+use Rattle.scores.specs.Eight.Query.{query-last}
+use Rattle.scores.specs.Eight.Scores.{queryTotal, queryScore}
 use Rattle.stores.specs.declared.HourAnswer.{HourAnswer}
 use Rattle.stores.specs.Laws.Asked.{code-accepted, pieces-are, some-records, store-accepted, empty-store}
 use Rattle.stores.specs.Laws.Best.{IsBest, best-is}
@@ -84,7 +84,7 @@ module _ (c : Settings) (steps : List ℤ) (h : Hour) (b : List ℕ) (sound : So
   score-at i k = map-at f (cut size count b) i [] _ (omega (arith, cut-long size count b)) ∙ ap f (cut-at size count i b k)
 
   alone-is : (i : ℕ) → i < count → alone i ≡ valued Accepted («at» scores i)
-  unfolding queryScore
+  unfolding Rattle.scores.specs.Scores.queryScore
   alone-is i k =
       ap (λ (v : Verdict). valued v (f (recordAt size b i))) (query-last c steps h (recordAt size b i) (taken .accepted) ∙ code-accepted (length steps) q m (blocksOf h) 0 0 (recordAt size b i) (taken .store .each i k))
       ∙ ap (valued Accepted) (sym (score-at i k))

@@ -15,7 +15,7 @@ use Rattle.layers.specs.Digits.{IsLayer, joined, cut, entryOf}
 use Rattle.layers.specs.E8.{layerPoint8}
 use Rattle.layers.specs.Laws.Entries.{entryOf-less, pow-four, digitsOf-entryOf, row-at, rows-long}
 use Rattle.records.specs.Laws.Parts.{cut-long, cut-at, cut-made, part-made, joined-more}
-use Rattle.records.specs.Vectors.{inBlocks}
+use Rattle.records.specs.Eight.Vectors.{inBlocks}
 use Rattle.scores.specs.Scores.{inner}
 use Rattle.tables.specs.Tables.{queryMost, partSize, layerAt, pairRow, pairTable, queryPart, queryTable}
 

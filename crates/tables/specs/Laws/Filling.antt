@@ -8,8 +8,8 @@ use lib.ListN.{length}
 use Rattle.coding.specs.Laws.Asked.{checked-allowed}
 use Rattle.records.specs.Frames.{wholeBlocks}
 use Rattle.records.specs.Laws.Frames.{Framed, record-framed}
-use Rattle.records.specs.Laws.Hours.{Sound, units-small, taken-all}
-use Rattle.records.specs.Vectors.{Hour, fvecsHour, checkReadings, unitsTaken, blocksOf, UnitsTaken}
+use Rattle.records.specs.Eight.Hours.{Sound, units-small, taken-all}
+use Rattle.records.specs.Eight.Vectors.{Hour, fvecsHour, checkReadings, unitsTaken, blocksOf, UnitsTaken}
 use Rattle.refusals.specs.declared.settings.Settings.{Settings}
 use Rattle.refusals.specs.declared.Refusal.{Refusal}
 use Rattle.refusals.specs.declared.Refusal.the-variants.{Table, Size, Record}

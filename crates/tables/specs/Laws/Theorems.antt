@@ -12,9 +12,9 @@ use Rattle.integers.specs.Vectors.{«at», dot}
 use Rattle.readings.specs.declared.Measured.{Measured}
 use Rattle.readings.specs.declared.Measured.the-variants as measured
 use Rattle.readings.specs.Words.{wordAt, measureAt}
-use Rattle.records.specs.Laws.Hours.{Sound, fvecs-count, fvecs-reading, word-missing}
+use Rattle.records.specs.Eight.Hours.{Sound, fvecs-count, fvecs-reading, word-missing}
 use Rattle.records.specs.Laws.Vectors.{AllUnits, first-missing, first-beyond}
-use Rattle.records.specs.Vectors.{Hour, fvecsHour, checkReadings, unitsTaken, blocksOf}
+use Rattle.records.specs.Eight.Vectors.{Hour, fvecsHour, checkReadings, unitsTaken, blocksOf}
 use Rattle.refusals.specs.declared.settings.Settings.{Settings}
 use Rattle.refusals.specs.declared.Refusal.{Refusal}
 use Rattle.refusals.specs.declared.Refusal.the-variants.{Missing, OutOfRange}

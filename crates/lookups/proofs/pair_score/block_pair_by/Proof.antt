@@ -14,7 +14,7 @@ use Rattle.integers.specs.Vectors.{«at»}
 use Rattle.layers.specs.Digits.{Below, IsLayer, IsLayers, IsCode, cut, entryOf}
 use Rattle.layers.specs.Laws.Loops.{code-layer}
 use Rattle.layers.specs.Laws.Rows.{cut-layers}
-use Rattle.records.specs.Codes.{stepOf}
+use Rattle.records.specs.Eight.Codes.{stepOf}
 use Rattle.scores.specs.Laws.Sizes.{step-small}
 use Rattle.tables.specs.Laws.Entries.{entry-within, block-layer}
 use Rattle.lookups.specs.Laws.Rows.{entries-below, row-sum-is}

@@ -10,11 +10,11 @@ use mir.Val.{SFits}
 use mir.Facts.{toZ-ofZ}
 use Rattle.integers.specs.Laws.Loops.{rest-whole}
 use Rattle.layers.specs.Digits.{cut}
-use Rattle.records.specs.Codes.{Coder, AreBlocks, blockSize, blocksIn}
+use Rattle.records.specs.Eight.Codes.{Coder, AreBlocks, blockSize, blocksIn}
 use Rattle.refusals.specs.declared.Verdict.{Verdict}
 use Rattle.refusals.specs.declared.Verdict.the-variants.{Accepted}
 use Rattle.refusals.specs.Answers.{valued}
-use Rattle.scores.specs.Laws.Asked.{exact-blocks}
+use Rattle.scores.specs.Eight.Asked.{exact-blocks}
 use Rattle.scores.specs.Scores.{total}
 use Rattle.lookups.specs.Laws.Scoring.{PairByTaken, pair-by-taken}
 use Rattle.lookups.specs.Scoring.{blockPairBy, pairTotalBy, checkPairBy, pairScoreBy}

@@ -7,7 +7,7 @@ use mir.Syntax.{w64}
 use mir.Val.{SFits, toZ, ofZ}
 use mir.Facts.{toZ-ofZ}
 use Rattle.layers.specs.Digits.{cut}
-use Rattle.records.specs.Codes.{Coder, AreBlocks, blockSize}
+use Rattle.records.specs.Eight.Codes.{Coder, AreBlocks, blockSize}
 use Rattle.scores.specs.Scores.{total}
 use Rattle.tables.specs.Tables.{pairSize}
 use Rattle.lookups.specs.Laws.Sums.{last-layers, pair-none}

@@ -3,7 +3,7 @@ use mathlib.Core.Path.{_≡_, refl, sym, _∙_, ap}
 use mathlib.Core.List.{[], _∷_}
 use lib.IntN.{ℤ, natAbs}
 use lib.ListN.{length}
-use Rattle.records.specs.Laws.Asked.{CoderTaken, coder-accepted}
+use Rattle.records.specs.Eight.Asked.{CoderTaken, coder-accepted}
 use Rattle.refusals.specs.declared.Verdict.{Verdict}
 use Rattle.refusals.specs.declared.Verdict.the-variants.{Accepted}
 use Rattle.refusals.specs.Answers.{valued}

@@ -9,7 +9,7 @@ use mir.Val.{SFits, toZ, ofZ}
 use mir.Facts.{toZ-ofZ}
 use Rattle.layers.specs.Digits.{cut}
 use Rattle.layers.specs.Laws.Bases.{base-is, base-two}
-use Rattle.records.specs.Codes.{Coder, AreBlocks, blockSize}
+use Rattle.records.specs.Eight.Codes.{Coder, AreBlocks, blockSize}
 use Rattle.scores.specs.Scores.{total}
 use Rattle.tables.specs.Tables.{queryMost, partSize}
 use Rattle.lookups.specs.Laws.Sums.{last-layers, query-none}

@@ -11,7 +11,7 @@ use mir.Val.{SFits, toZ}
 use mir.Facts.{toZ-ofZ}
 use Rattle.integers.specs.Laws.Sizes.{fits-abs, abs-add}
 use Rattle.layers.specs.Digits.{cut}
-use Rattle.records.specs.Codes.{IsBlock, blockSize}
+use Rattle.records.specs.Eight.Codes.{IsBlock, blockSize}
 use Rattle.records.specs.Laws.Parts.{part-ends}
 use Rattle.scores.specs.Laws.Totals.{parts-more}
 use Rattle.scores.specs.Scores.{total}

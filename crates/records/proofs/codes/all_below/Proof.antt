@@ -8,7 +8,7 @@ use borrow.Author.Needs.{needs}
 use borrow.Author.Tests.{ltb-true}
 use lib.ListN.{length}
 use Rattle.layers.specs.Laws.Rows.{below-more}
-use Rattle.records.specs.Codes.{blockSize}
+use Rattle.records.specs.Codes.{blockBytes}
 use Rattle.records.specs.Laws.Glance.{Raising, Glanced, raising-none, raising-more, glanced-none, glanced-more, glanced-all}
 use Rattle.records.specs.Laws.Parts.{part-ends}
 use Rattle.records.proofs.codes.all_below.Statement.{statement}
@@ -50,7 +50,7 @@ module _ (c : tie.In-loop Inv-loop2 μ-loop2 Inv-loop μ-loop) where
   size = b .before .block-size .ensures
 
   ends : n * i + n ≤ length f
-  ends = subst (λ (n : ℕ). n * i + n ≤ length f) (sym size) (omega (arith, part-ends (blockSize m) i (s .args .k) (c .loop-test .taken), s .pre .1))
+  ends = subst (λ (n : ℕ). n * i + n ≤ length f) (sym size) (omega (arith, part-ends (blockBytes 8 m) i (s .args .k) (c .loop-test .taken), s .pre .1))
 
 -- its layer j
 module _ (c : tie.In-loop2 Inv-loop2 μ-loop2 Inv-loop μ-loop) where

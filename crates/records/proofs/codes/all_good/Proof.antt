@@ -4,16 +4,16 @@ use mathlib.Core.Bool.{false≢true}
 use Prim.Native.Nat.{ℕ, _*_, _≤_}
 use native.Mathlib.Omega.{arith}
 use lib.ListN.{length}
-use Rattle.records.specs.Codes.{blockSize, AllAccepted}
+use Rattle.records.specs.Codes.{blockBytes, AllAccepted}
 use Rattle.records.proofs.codes.all_good.Statement.{statement}
 use Rattle.records.proofs.codes.all_good.Tie as tie
 
 -- blocks of m layers
-module _ (s : tie.Start) (m : ℕ) (e : s .args .n ≡ blockSize m) where
-  there : blockSize m * s .args .k ≤ length (s .args .body .now)
+module _ (s : tie.Start) (m : ℕ) (e : s .args .n ≡ blockBytes 8 m) where
+  there : blockBytes 8 m * s .args .k ≤ length (s .args .body .now)
   there = subst (λ (n : ℕ). n * s .args .k ≤ length (s .args .body .now)) e (s .pre)
 
-  so : AllAccepted (s .args .steps) (s .args .q) (blockSize m) (s .args .k) (s .args .body .now) → AllAccepted (s .args .steps) (s .args .q) (s .args .n) (s .args .k) (s .args .body .now)
+  so : AllAccepted (s .args .steps) (s .args .q) (blockBytes 8 m) (s .args .k) (s .args .body .now) → AllAccepted (s .args .steps) (s .args .q) (s .args .n) (s .args .k) (s .args .body .now)
   so = subst (λ (n : ℕ). AllAccepted (s .args .steps) (s .args .q) n (s .args .k) (s .args .body .now)) (sym e)
 
 all-below-requires : tie.Need-all-below-requires

@@ -11,11 +11,11 @@ use Rattle.refusals.specs.declared.Verdict.{Verdict}
 use Rattle.refusals.specs.Laws.Verdicts.{first-last}
 use Rattle.refusals.specs.Verdicts.{unless, firstRefusal}
 use Rattle.layers.specs.Digits.{cut}
-use Rattle.records.specs.Codes.{blockSize, blocksIn, codeBlocks, checkBlocks}
+use Rattle.records.specs.Eight.Codes.{blockSize, blocksIn, codeBlocks, checkBlocks}
 use Rattle.records.specs.Frames.{goodRecord}
-use Rattle.records.specs.Laws.Asked.{frame-holds}
+use Rattle.records.specs.Eight.Asked.{frame-holds}
 use Rattle.records.specs.Laws.Frames.{Framed, record-framed}
-use Rattle.scores.specs.Scores.{checkCode}
+use Rattle.scores.specs.Eight.Scores.{checkCode}
 use Rattle.scores.proofs.codes.check_code.Statement.{statement}
 use Rattle.scores.proofs.codes.check_code.Tie as tie
 
@@ -41,7 +41,7 @@ module _ (c : tie.After-good-record) where
 
   decided : (f : Bool) → c .good-record .result ≡ f
       → checkCode (s .args .steps) (s .args .q) m (s .args .least) (s .args .most) (s .args .place) (s .args .first) b ≡ firstRefusal (unless f (Record (s .args .place)) ∷ bytes ∷ [])
-  unfolding checkCode
+  unfolding Rattle.scores.specs.Scores.checkCode
   decided f e = ap (λ (f : Bool). firstRefusal (unless f (Record (s .args .place)) ∷ bytes ∷ [])) (framed ∙ e)
 
 -- it is good

@@ -4,14 +4,14 @@ use mathlib.Core.Path.{_≡_, sym, _∙_, ap}
 use mathlib.Core.List.{List, [], _∷_}
 use Prim.Native.Nat.{ℕ}
 use native.Mathlib.Omega.{arith}
-use Rattle.records.specs.Codes.{blocksIn}
+use Rattle.records.specs.Eight.Codes.{blocksIn}
 use Rattle.refusals.specs.declared.Verdict.{Verdict}
 use Rattle.refusals.specs.declared.Verdict.the-variants.{Accepted}
 use Rattle.refusals.specs.Laws.Verdicts.{first-last}
 use Rattle.refusals.specs.Limits.{blocksMost}
 use Rattle.refusals.specs.Verdicts.{firstRefusal}
-use Rattle.scores.specs.Laws.Asked.{code-taken}
-use Rattle.scores.specs.Scores.{checkCode}
+use Rattle.scores.specs.Eight.Asked.{code-taken}
+use Rattle.scores.specs.Eight.Scores.{checkCode}
 use Rattle.scores.proofs.codes.check_codes.Statement.{statement}
 use Rattle.scores.proofs.codes.check_codes.Tie as tie
 

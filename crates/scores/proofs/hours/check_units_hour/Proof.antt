@@ -3,7 +3,7 @@ use borrow.Author.Needs.{needs}
 use mathlib.Core.Path.{_≡_, refl, sym, _∙_, ap}
 use mathlib.Core.Bool.{Bool}
 use mathlib.Core.List.{[], _∷_}
-use Rattle.records.specs.Vectors.{Hour, unitsHour, checkReadings}
+use Rattle.records.specs.Eight.Vectors.{Hour, unitsHour, checkReadings}
 use Rattle.refusals.specs.declared.Refusal.the-variants.{Size}
 use Rattle.refusals.specs.declared.Verdict.{Verdict}
 use Rattle.refusals.specs.declared.Verdict.the-variants.{Accepted, Refused}

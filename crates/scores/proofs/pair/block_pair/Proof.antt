@@ -8,7 +8,7 @@ use mir.Syntax.{w64}
 use mir.Val.{SFits}
 use mir.Facts.{toZ-ofZ}
 use Rattle.integers.specs.Laws.Sizes.{fits-abs, abs-mul-le}
-use Rattle.records.specs.Codes.{stepOf}
+use Rattle.records.specs.Eight.Codes.{stepOf}
 use Rattle.refusals.specs.Limits.{stepMost}
 use Rattle.scores.specs.Laws.Sizes.{inner-narrow, scored-step}
 use Rattle.scores.specs.Scores.{inner}

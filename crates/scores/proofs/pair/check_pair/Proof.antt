@@ -6,16 +6,16 @@ use Prim.Native.Nat.{ℕ}
 use native.Mathlib.Omega.{arith}
 use lib.IntN.{natAbs}
 use lib.ListN.{length}
-use Rattle.records.specs.Codes.{blocksIn}
-use Rattle.records.specs.Laws.Asked.{CoderTaken, coder-accepted}
+use Rattle.records.specs.Eight.Codes.{blocksIn}
+use Rattle.records.specs.Eight.Asked.{CoderTaken, coder-accepted}
 use Rattle.refusals.specs.declared.Verdict.{Verdict}
 use Rattle.refusals.specs.declared.Verdict.the-variants.{Accepted}
 use Rattle.refusals.specs.Laws.Verdicts.{first-last}
 use Rattle.refusals.specs.Limits.{blocksMost}
 use Rattle.refusals.specs.Steps.{checkSteps}
 use Rattle.refusals.specs.Verdicts.{firstRefusal}
-use Rattle.scores.specs.Laws.Pair.{pair-is}
-use Rattle.scores.specs.Scores.{checkCode, checkPair}
+use Rattle.scores.specs.Eight.Pair.{pair-is}
+use Rattle.scores.specs.Eight.Scores.{checkCode, checkPair}
 use Rattle.scores.proofs.pair.check_pair.Statement.{statement}
 use Rattle.scores.proofs.pair.check_pair.Tie as tie
 

@@ -11,13 +11,13 @@ use mir.Val.{SFits, toZ, ofZ}
 use mir.Facts.{toZ-ofZ}
 use Rattle.integers.specs.Laws.Loops.{rest-whole}
 use Rattle.layers.specs.Digits.{cut}
-use Rattle.records.specs.Codes.{Coder, AreBlocks, blockSize, blocksIn}
+use Rattle.records.specs.Eight.Codes.{Coder, AreBlocks, blockSize, blocksIn}
 use Rattle.refusals.specs.declared.Verdict.{Verdict}
 use Rattle.refusals.specs.declared.Verdict.the-variants.{Accepted}
 use Rattle.refusals.specs.Answers.{valued}
-use Rattle.scores.specs.Laws.Asked.{exact-blocks}
-use Rattle.scores.specs.Laws.Pair.{PairTaken, pair-taken}
-use Rattle.scores.specs.Scores.{total, blockPair, pairTotal, checkPair, pairScore}
+use Rattle.scores.specs.Eight.Asked.{exact-blocks}
+use Rattle.scores.specs.Eight.Pair.{PairTaken, pair-taken}
+use Rattle.scores.specs.Eight.Scores.{total, blockPair, pairTotal, checkPair, pairScore}
 use Rattle.scores.proofs.pair.pair_score.Statement.{statement}
 use Rattle.scores.proofs.pair.pair_score.Tie as tie
 
@@ -145,11 +145,11 @@ pair-body-requires c κs = let n = c .before .before in let a = t n in let h = t
 )
 
 returns : tie.Need-returns
-unfolding pairScore
+unfolding Rattle.scores.specs.Scores.pairScore
 returns c = let a = c .before .before .before .before in c .refused .ensures ∙ ap (λ (v : Verdict). valued v (value a)) (sym (c .before .before .r .given .1) ∙ a .check-pair .ensures)
 
 returns-2 : tie.Need-returns-2
-unfolding pairScore pairTotal
+unfolding Rattle.scores.specs.Scores.pairScore Rattle.scores.specs.Scores.pairTotal
 returns-2 c = let n = c .before .before .before in let a = t n in
     let f : SFits w64 (c .pair-body .result) = record { sfits = c .pair-body .ok } in
     let same : c .pair-body .result ≡ value a =

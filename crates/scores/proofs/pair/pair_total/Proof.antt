@@ -10,12 +10,12 @@ use mir.Val.{SFits, toZ}
 use mir.Facts.{toZ-ofZ}
 use Rattle.integers.specs.Laws.Sizes.{fits-abs}
 use Rattle.layers.specs.Digits.{cut}
-use Rattle.records.specs.Codes.{blockSize, stepOf, wholePoint}
+use Rattle.records.specs.Eight.Codes.{blockSize, stepOf, wholePoint}
 use Rattle.records.specs.Laws.Parts.{part-ends}
 use Rattle.points.specs.Laws.Points.{coder-digital, blocks-codes, row-at}
 use Rattle.scores.specs.Laws.Sizes.{block-scored, blockPair-most}
 use Rattle.scores.specs.Laws.Totals.{parts-more, parts-small}
-use Rattle.scores.specs.Scores.{Scored, total, inner, blockPair}
+use Rattle.scores.specs.Eight.Scores.{Scored, total, inner, blockPair}
 use Rattle.scores.proofs.pair.pair_total.Statement.{statement}
 use Rattle.scores.proofs.pair.pair_total.Tie as tie
 
@@ -142,7 +142,7 @@ module _ (c : tie.After-block-pair Inv-loop μ-loop) where
   y-fits = record { sfits = c .block-pair .ok }
 
   y-is : y ≡ f t (block t (body t) (i t)) (block t (body′ t) (i t))
-  unfolding blockPair
+  unfolding Rattle.scores.specs.Scores.blockPair
   y-is = let h = b .loop-test .taken in
       c .block-pair .ensures
       ∙ ap₂ _*ℤ_ (ap₂ (λ (g g′ : List ℕ). stepOf (steps t) g *ℤ stepOf (steps′ t) g′) (block-is t (body t)) (block-is t (body′ t))) (ap₂ inner (row-is t (i t) h) (row′-is t (i t) h))

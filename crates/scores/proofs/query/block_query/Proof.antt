@@ -9,7 +9,7 @@ use mir.Val.{SFits}
 use mir.Facts.{toZ-ofZ}
 use Rattle.integers.specs.Laws.Sizes.{fits-abs, abs-mul-le}
 use Rattle.integers.specs.Vectors.{dot}
-use Rattle.records.specs.Codes.{stepOf}
+use Rattle.records.specs.Eight.Codes.{stepOf}
 use Rattle.scores.specs.Laws.Sizes.{dot-sized, scored-step}
 use Rattle.scores.proofs.query.block_query.Statement.{statement}
 use Rattle.scores.proofs.query.block_query.Tie as tie

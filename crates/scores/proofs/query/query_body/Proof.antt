@@ -7,8 +7,8 @@ use mir.Val.{SFits, ofZ}
 use mir.Facts.{toZ-ofZ}
 use Rattle.layers.specs.Digits.{cut}
 use Rattle.layers.specs.Laws.Bases.{base-is}
-use Rattle.records.specs.Codes.{blockSize}
-use Rattle.scores.specs.Scores.{total, blockQuery}
+use Rattle.records.specs.Eight.Codes.{blockSize}
+use Rattle.scores.specs.Eight.Scores.{total, blockQuery}
 use Rattle.scores.proofs.query.query_body.Statement.{statement}
 use Rattle.scores.proofs.query.query_body.Tie as tie
 

@@ -8,14 +8,14 @@ use lib.IntN.{ℤ, natAbs}
 use lib.ListN.{length, take, drop, length-append}
 use lib.Seq.{take-at}
 use Rattle.integers.specs.Vectors.{zeros}
-use Rattle.records.specs.Laws.Hours.{fvecs-sound, fvecs-count}
-use Rattle.records.specs.Vectors.{Hour, fvecsHour, unitsTaken, UnitsTaken}
+use Rattle.records.specs.Eight.Hours.{fvecs-sound, fvecs-count}
+use Rattle.records.specs.Eight.Vectors.{Hour, fvecsHour, unitsTaken, UnitsTaken}
 use Rattle.refusals.specs.declared.Verdict.the-variants.{Accepted}
 use Rattle.refusals.specs.Answers.{valued}
 use Rattle.scores.specs.Hours.{checkHour}
-use Rattle.scores.specs.Laws.Asked.{HourTaken, hour-taken, hour-framed, room-taken}
-use Rattle.scores.specs.Laws.Query.{queryScore-refused, queryScore-is}
-use Rattle.scores.specs.Scores.{queryTotal, checkCode}
+use Rattle.scores.specs.Eight.Asked.{HourTaken, hour-taken, hour-framed, room-taken}
+use Rattle.scores.specs.Eight.Query.{queryScore-refused, queryScore-is}
+use Rattle.scores.specs.Eight.Scores.{queryTotal, checkCode}
 use Rattle.scores.proofs.query.query_score.Statement.{statement}
 use Rattle.scores.proofs.query.query_score.Tie as tie
 

@@ -5,12 +5,12 @@ use mathlib.Core.List.{List}
 use lib.IntN.{ℤ}
 use lib.ListN.{length-map}
 use Rattle.readings.specs.Taking.{measureUnits}
-use Rattle.records.specs.Laws.Hours.{units-sound, units-taken}
-use Rattle.records.specs.Vectors.{Hour, unitsHour, unitsTaken, UnitsTaken}
+use Rattle.records.specs.Eight.Hours.{units-sound, units-taken}
+use Rattle.records.specs.Eight.Vectors.{Hour, unitsHour, unitsTaken, UnitsTaken}
 use Rattle.refusals.specs.declared.Verdict.the-variants.{Accepted}
 use Rattle.scores.specs.Hours.{checkHour}
-use Rattle.scores.specs.Laws.Asked.{HourTaken, hour-taken}
-use Rattle.scores.specs.Laws.Query.{queryScore-refused, queryScore-is}
+use Rattle.scores.specs.Eight.Asked.{HourTaken, hour-taken}
+use Rattle.scores.specs.Eight.Query.{queryScore-refused, queryScore-is}
 use Rattle.scores.proofs.query.query_score_units.Statement.{statement}
 use Rattle.scores.proofs.query.query_score_units.Tie as tie
 

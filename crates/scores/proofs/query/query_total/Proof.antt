@@ -10,7 +10,7 @@ use mir.Val.{SFits, toZ, ofZ}
 use mir.Facts.{toZ-ofZ}
 use Rattle.layers.specs.Digits.{cut}
 use Rattle.layers.specs.Laws.Bases.{base-is}
-use Rattle.records.specs.Codes.{blockSize, wholePoint}
+use Rattle.records.specs.Eight.Codes.{blockSize, wholePoint}
 use Rattle.scores.proofs.query.query_total.Statement.{statement}
 use Rattle.scores.proofs.query.query_total.Tie as tie
 

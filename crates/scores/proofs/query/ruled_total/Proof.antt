@@ -15,7 +15,7 @@ use Rattle.integers.specs.Laws.Sums.{sized-part}
 use Rattle.integers.specs.Vectors.{dot, Sized}
 use Rattle.columns.specs.Columns.{column}
 use Rattle.layers.specs.Digits.{cut}
-use Rattle.records.specs.Codes.{AreCodes, IsBlock, blockSize, stepOf, wholePoint}
+use Rattle.records.specs.Eight.Codes.{AreCodes, IsBlock, blockSize, stepOf, wholePoint}
 use Rattle.records.specs.Laws.Parts.{part-ends}
 use Rattle.points.specs.Lanes.{BlockPoints}
 use Rattle.points.specs.Laws.LanePoints.{codes-from}
@@ -23,7 +23,7 @@ use Rattle.points.specs.Laws.Points.{coder-digital, blocks-codes}
 use Rattle.scores.specs.Laws.Groups.{Standing, standing-first, standing-next}
 use Rattle.scores.specs.Laws.Sizes.{block-scored, blockQuery-most}
 use Rattle.scores.specs.Laws.Totals.{parts-more, parts-small}
-use Rattle.scores.specs.Scores.{Scored, total, blockQuery}
+use Rattle.scores.specs.Eight.Scores.{Scored, total, blockQuery}
 use Rattle.scores.proofs.query.ruled_total.Statement.{statement}
 use Rattle.scores.proofs.query.ruled_total.Tie as tie
 
@@ -181,7 +181,7 @@ module _ (c : tie.After-column-dot Inv-loop μ-loop) where
   d-fits = record { sfits = c .column-dot .ok }
 
   y-is : a *ℤ d ≡ f h (part h (i h)) (block h (i h))
-  unfolding blockQuery
+  unfolding Rattle.scores.specs.Scores.blockQuery
   y-is = ap₂ _*ℤ_ (c .before .before .before .step-of .ensures ∙ ap (stepOf (steps h)) (block-is (g o))) (c .column-dot .ensures ∙ ap₂ dot (part-is (g o)) (own-is o))
 
   y-fits : SFits w64 (a *ℤ d)

@@ -11,15 +11,15 @@ use mir.Val.{SFits, toZ, ofZ}
 use mir.Facts.{toZ-ofZ}
 use Rattle.integers.specs.Laws.Loops.{rest-whole}
 use Rattle.layers.specs.Digits.{cut}
-use Rattle.records.specs.Codes.{Coder, AreBlocks, blockSize, blocksIn}
-use Rattle.records.specs.Laws.Asked.{RecordTaken}
+use Rattle.records.specs.Eight.Codes.{Coder, AreBlocks, blockSize, blocksIn}
+use Rattle.records.specs.Eight.Asked.{RecordTaken}
 use Rattle.records.specs.Laws.Frames.{Whole, blocks-whole}
 use Rattle.refusals.specs.declared.Verdict.{Verdict}
 use Rattle.refusals.specs.declared.Verdict.the-variants.{Accepted}
 use Rattle.refusals.specs.Answers.{valued}
 use Rattle.refusals.specs.Limits.{blocksMost}
-use Rattle.scores.specs.Laws.Asked.{code-taken, exact-blocks}
-use Rattle.scores.specs.Scores.{total, blockQuery, queryTotal, checkCode}
+use Rattle.scores.specs.Eight.Asked.{code-taken, exact-blocks}
+use Rattle.scores.specs.Eight.Scores.{total, blockQuery, queryTotal, checkCode}
 use Rattle.scores.proofs.query.score_units.Statement.{statement}
 use Rattle.scores.proofs.query.score_units.Tie as tie
 
@@ -135,7 +135,7 @@ returns : tie.Need-returns
 returns c = let a = c .before .before .before .before in c .refused .ensures ∙ ap (λ (v : Verdict). valued v (value a)) (sym (c .before .before .r .given .1) ∙ checked a)
 
 returns-2 : tie.Need-returns-2
-unfolding queryTotal
+unfolding Rattle.scores.specs.Scores.queryTotal
 returns-2 c = let b = c .before in let a = t b in
     let sum : c .query-body .result ≡ value a =
     c .query-body .ensures

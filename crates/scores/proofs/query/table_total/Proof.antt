@@ -12,12 +12,12 @@ use Rattle.integers.specs.Laws.Sizes.{fits-abs}
 use Rattle.integers.specs.Laws.Sums.{sized-part}
 use Rattle.integers.specs.Vectors.{dot, Sized}
 use Rattle.layers.specs.Digits.{cut}
-use Rattle.records.specs.Codes.{blockSize, stepOf, wholePoint}
+use Rattle.records.specs.Eight.Codes.{blockSize, stepOf, wholePoint}
 use Rattle.records.specs.Laws.Parts.{part-ends}
 use Rattle.points.specs.Laws.Points.{coder-digital, blocks-codes, row-at}
 use Rattle.scores.specs.Laws.Sizes.{block-scored, blockQuery-most}
 use Rattle.scores.specs.Laws.Totals.{parts-more, parts-small}
-use Rattle.scores.specs.Scores.{Scored, total, blockQuery}
+use Rattle.scores.specs.Eight.Scores.{Scored, total, blockQuery}
 use Rattle.scores.proofs.query.table_total.Statement.{statement}
 use Rattle.scores.proofs.query.table_total.Tie as tie
 
@@ -130,7 +130,7 @@ module _ (c : tie.After-block-query Inv-loop μ-loop) where
   y-fits = record { sfits = c .block-query .ok }
 
   y-is : y ≡ f t (part t (i t)) (block t (i t))
-  unfolding blockQuery
+  unfolding Rattle.scores.specs.Scores.blockQuery
   y-is = c .block-query .ensures ∙ ap₂ _*ℤ_ (ap (stepOf (steps t)) (block-is b)) (ap₂ dot (part-is b) (row-is t (i t) (b .loop-test .taken)))
 
   more-is : sum t (i t) +ℤ y ≡ sum t (i t + 1)

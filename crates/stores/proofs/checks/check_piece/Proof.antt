@@ -6,7 +6,7 @@ use native.Mathlib.Omega.{arith}
 use lib.ListN.{take, length-take}
 use lib.Seq.{take-all}
 use Rattle.refusals.specs.declared.Verdict.{Verdict}
-use Rattle.scores.specs.Scores.{checkCode}
+use Rattle.scores.specs.Eight.Scores.{checkCode}
 use Rattle.stores.proofs.checks.check_piece.Statement.{statement}
 use Rattle.stores.proofs.checks.check_piece.Tie as tie
 

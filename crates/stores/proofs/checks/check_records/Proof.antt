@@ -6,11 +6,11 @@ use native.Mathlib.Nat.{mul-le-mul}
 use native.Mathlib.Omega.{arith}
 use lib.ListN.{length, take, drop, length-take, length-drop}
 use Rattle.integers.specs.Laws.Loops.{rest-whole}
-use Rattle.records.specs.Codes.{codeLength}
+use Rattle.records.specs.Eight.Codes.{codeLength}
 use Rattle.refusals.specs.declared.Verdict.{Verdict}
 use Rattle.refusals.specs.Laws.Verdicts.{first-last}
 use Rattle.refusals.specs.Verdicts.{firstRefusal}
-use Rattle.scores.specs.Scores.{checkCode}
+use Rattle.scores.specs.Eight.Scores.{checkCode}
 use Rattle.stores.specs.Laws.Pieces.{records-opened, records-done}
 use Rattle.stores.specs.Stores.{pieces, checkRecords}
 use Rattle.stores.proofs.checks.check_records.Statement.{statement}

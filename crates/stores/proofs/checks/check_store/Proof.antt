@@ -6,7 +6,7 @@ use Prim.Native.Nat.{ℕ}
 use lib.Dec.{ltb}
 use lib.ListN.{length}
 use borrow.Author.Tests.{lt-ltb, le-ltb}
-use Rattle.records.specs.Codes.{codeLength}
+use Rattle.records.specs.Eight.Codes.{codeLength}
 use Rattle.refusals.specs.declared.Refusal.the-variants.{EmptyStore}
 use Rattle.refusals.specs.declared.Verdict.{Verdict}
 use Rattle.refusals.specs.Laws.Verdicts.{first-last}

@@ -8,11 +8,11 @@ use lib.IntN.{ℤ, natAbs}
 use lib.ListN.{length, take, drop, length-append}
 use lib.Seq.{take-at}
 use Rattle.integers.specs.Vectors.{zeros}
-use Rattle.records.specs.Laws.Hours.{fvecs-sound, fvecs-count}
-use Rattle.records.specs.Vectors.{Hour, fvecsHour, unitsTaken, UnitsTaken}
+use Rattle.records.specs.Eight.Hours.{fvecs-sound, fvecs-count}
+use Rattle.records.specs.Eight.Vectors.{Hour, fvecsHour, unitsTaken, UnitsTaken}
 use Rattle.refusals.specs.declared.Verdict.the-variants.{Accepted}
 use Rattle.scores.specs.Hours.{checkHour}
-use Rattle.scores.specs.Laws.Asked.{HourTaken, hour-taken, hour-framed, room-taken}
+use Rattle.scores.specs.Eight.Asked.{HourTaken, hour-taken, hour-framed, room-taken}
 use Rattle.stores.specs.Laws.Search.{bestHour-refused, bestHour-is}
 use Rattle.stores.specs.Stores.{checkStore, bestIn, found}
 use Rattle.stores.proofs.search.best_hour.Statement.{statement}

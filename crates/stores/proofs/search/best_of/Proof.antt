@@ -10,10 +10,10 @@ use mir.Syntax.{w64}
 use mir.Val.{SFits, toZ, ofZ}
 use mir.Facts.{toZ-ofZ}
 use Rattle.layers.specs.Digits.{cut}
-use Rattle.records.specs.Codes.{codeLength}
-use Rattle.records.specs.Laws.Asked.{RecordTaken}
+use Rattle.records.specs.Eight.Codes.{codeLength}
+use Rattle.records.specs.Eight.Asked.{RecordTaken}
 use Rattle.records.specs.Laws.Parts.{part-ends}
-use Rattle.scores.specs.Scores.{queryTotal}
+use Rattle.scores.specs.Eight.Scores.{queryTotal}
 use Rattle.stores.specs.declared.Best.{Best}
 use Rattle.stores.specs.Laws.Asked.{some-records, pieces-are}
 use Rattle.stores.specs.Laws.Best.{best-next}

@@ -14,9 +14,9 @@ use mir.Facts.{toZ-ofZ}
 use Rattle.integers.specs.Laws.Loops.{rest-whole}
 use Rattle.layers.specs.Digits.{cut}
 use Rattle.points.specs.Laws.Points.{rows-long}
-use Rattle.records.specs.Codes.{AreBlocks, blockSize, blocksIn, wholePoint}
-use Rattle.scores.specs.Laws.Asked.{taken-block, exact-blocks}
-use Rattle.scores.specs.Scores.{total, blockQuery, queryTotal}
+use Rattle.records.specs.Eight.Codes.{AreBlocks, blockSize, blocksIn, wholePoint}
+use Rattle.scores.specs.Eight.Asked.{taken-block, exact-blocks}
+use Rattle.scores.specs.Eight.Scores.{total, blockQuery, queryTotal}
 use Rattle.tables.specs.Laws.Entries.{queryTable-long}
 use Rattle.lookups.specs.Laws.Same.{query-totals}
 use Rattle.lookups.specs.Scoring.{blockQueryBy, queryTotalBy}
@@ -107,7 +107,7 @@ query-total-by-requires : tie.Need-query-total-by-requires
 query-total-by-requires c κs = let e = c .before in let a = s e in simp (toZ-ofZ, a .fits .q) (a .pre .2, are-blocks a, look e .0, enough e, a .pre .5)
 
 returns : tie.Need-returns
-unfolding queryTotal
+unfolding Rattle.scores.specs.Scores.queryTotal
 returns c = let s = c .before .before .before .before .before in let f : SFits w64 (c .query-total .result) = record { sfits = c .query-total .ok } in (
   toZ-ofZ f ∙ (simp (toZ-ofZ, s .fits .q) at (c .query-total .ensures .0))
       ∙ ap₂ (λ (n : ℕ) (f : List ℕ). total (blockQuery (q s) (m s) (steps s)) (cut 8 (k s) (X s)) (cut (blockSize (m s)) n f)) (sym (count s)) (rest-whole 4 (code s))

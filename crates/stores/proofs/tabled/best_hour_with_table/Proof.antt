@@ -8,8 +8,8 @@ use lib.IntN.{ℤ, natAbs}
 use lib.ListN.{length, take, length-append}
 use lib.Seq.{take-at}
 use Rattle.records.specs.Laws.Frames.{Framed, record-framed}
-use Rattle.records.specs.Laws.Hours.{fvecs-sound, fvecs-count, taken-all}
-use Rattle.records.specs.Vectors.{Hour, fvecsHour, checkReadings, unitsTaken}
+use Rattle.records.specs.Eight.Hours.{fvecs-sound, fvecs-count, taken-all}
+use Rattle.records.specs.Eight.Vectors.{Hour, fvecsHour, checkReadings, unitsTaken}
 use Rattle.refusals.specs.declared.Refusal.the-variants.{Record}
 use Rattle.refusals.specs.declared.settings.Settings.{Settings}
 use Rattle.refusals.specs.declared.Verdict.{Verdict}

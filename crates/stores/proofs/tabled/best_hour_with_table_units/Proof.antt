@@ -5,8 +5,8 @@ use Prim.Native.Nat.{ℕ}
 use lib.IntN.{ℤ}
 use lib.ListN.{length, length-map}
 use Rattle.readings.specs.Taking.{measureUnits}
-use Rattle.records.specs.Laws.Hours.{units-sound, units-taken}
-use Rattle.records.specs.Vectors.{Hour, unitsHour, checkReadings, unitsTaken}
+use Rattle.records.specs.Eight.Hours.{units-sound, units-taken}
+use Rattle.records.specs.Eight.Vectors.{Hour, unitsHour, checkReadings, unitsTaken}
 use Rattle.refusals.specs.declared.settings.Settings.{Settings}
 use Rattle.refusals.specs.declared.Verdict.{Verdict}
 use Rattle.refusals.specs.declared.Verdict.the-variants.{Accepted}

@@ -11,7 +11,7 @@ use mir.Facts.{toZ-ofZ}
 use Rattle.integers.specs.Vectors.{Sized}
 use Rattle.layers.specs.Digits.{joined, cut}
 use Rattle.layers.specs.Sizes.{Base}
-use Rattle.records.specs.Codes.{Coder}
+use Rattle.records.specs.Eight.Codes.{Coder}
 use Rattle.records.specs.Laws.Frames.{Whole, blocks-whole}
 use Rattle.refusals.specs.declared.Verdict.{Verdict}
 use Rattle.refusals.specs.declared.Verdict.the-variants.{Accepted}

@@ -9,8 +9,8 @@ use lib.IntN.{natAbs}
 use Rattle.readings.specs.Words.{wordAt}
 use Rattle.records.specs.Frames.{goodRecord}
 use Rattle.records.specs.Laws.Frames.{Framed, record-framed}
-use Rattle.records.specs.Laws.Hours.{fvecs-count}
-use Rattle.records.specs.Vectors.{fvecsHour}
+use Rattle.records.specs.Eight.Hours.{fvecs-count}
+use Rattle.records.specs.Eight.Vectors.{fvecsHour}
 use Rattle.refusals.specs.declared.Refusal.the-variants.{Record}
 use Rattle.refusals.specs.declared.Verdict.{Verdict}
 use Rattle.refusals.specs.Laws.Verdicts.{first-last}

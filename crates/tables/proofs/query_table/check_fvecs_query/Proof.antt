@@ -1,7 +1,7 @@
 -- `check_fvecs_query` checks the settings and q, then what is lent.
 use mathlib.Core.Path.{_≡_, sym, _∙_}
 use mathlib.Core.List.{[], _∷_}
-use Rattle.records.specs.Vectors.{Hour, fvecsHour}
+use Rattle.records.specs.Eight.Vectors.{Hour, fvecsHour}
 use Rattle.refusals.specs.declared.Verdict.{Verdict}
 use Rattle.refusals.specs.Laws.Verdicts.{first-last}
 use Rattle.refusals.specs.Verdicts.{firstRefusal}

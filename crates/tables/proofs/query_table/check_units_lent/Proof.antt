@@ -9,7 +9,7 @@ use lib.ListN.{length, length-map}
 use Rattle.readings.specs.Taking.{measureUnits}
 use Rattle.records.specs.Frames.{wholeBlocks}
 use Rattle.records.specs.Laws.Frames.{blocks-whole}
-use Rattle.records.specs.Vectors.{Hour, unitsHour, checkReadings}
+use Rattle.records.specs.Eight.Vectors.{Hour, unitsHour, checkReadings}
 use Rattle.refusals.specs.declared.Refusal.the-variants.{Size}
 use Rattle.refusals.specs.declared.Verdict.{Verdict}
 use Rattle.refusals.specs.Laws.Verdicts.{first-last}

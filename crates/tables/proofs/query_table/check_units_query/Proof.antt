@@ -1,7 +1,7 @@
 -- `check_units_query` checks the settings and q, then what is lent.
 use mathlib.Core.Path.{_≡_, sym, _∙_}
 use mathlib.Core.List.{[], _∷_}
-use Rattle.records.specs.Vectors.{Hour, unitsHour, checkReadings}
+use Rattle.records.specs.Eight.Vectors.{Hour, unitsHour, checkReadings}
 use Rattle.refusals.specs.declared.Verdict.{Verdict}
 use Rattle.refusals.specs.Laws.Verdicts.{first-last, first-group}
 use Rattle.refusals.specs.Verdicts.{firstRefusal}

@@ -13,8 +13,8 @@ use mir.Facts.{toZ-ofZ}
 use Rattle.coding.specs.Laws.Asked.{allowed-base}
 use Rattle.layers.specs.Sizes.{Base}
 use Rattle.records.specs.Laws.Frames.{Framed}
-use Rattle.records.specs.Laws.Hours.{fvecs-sound, fvecs-count}
-use Rattle.records.specs.Vectors.{Hour, fvecsHour, checkReadings, unitsTaken, UnitsTaken}
+use Rattle.records.specs.Eight.Hours.{fvecs-sound, fvecs-count}
+use Rattle.records.specs.Eight.Vectors.{Hour, fvecsHour, checkReadings, unitsTaken, UnitsTaken}
 use Rattle.refusals.specs.declared.Verdict.{Verdict}
 use Rattle.refusals.specs.declared.Verdict.the-variants.{Accepted}
 use Rattle.refusals.specs.Answers.{valued, written}

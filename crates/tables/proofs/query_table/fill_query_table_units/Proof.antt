@@ -10,8 +10,8 @@ use mir.Facts.{toZ-ofZ}
 use Rattle.coding.specs.Laws.Asked.{allowed-base}
 use Rattle.layers.specs.Sizes.{Base}
 use Rattle.readings.specs.Taking.{measureUnits}
-use Rattle.records.specs.Laws.Hours.{units-sound, units-taken}
-use Rattle.records.specs.Vectors.{Hour, unitsHour, unitsTaken, UnitsTaken}
+use Rattle.records.specs.Eight.Hours.{units-sound, units-taken}
+use Rattle.records.specs.Eight.Vectors.{Hour, unitsHour, unitsTaken, UnitsTaken}
 use Rattle.refusals.specs.declared.Verdict.{Verdict}
 use Rattle.refusals.specs.declared.Verdict.the-variants.{Accepted}
 use Rattle.refusals.specs.Answers.{valued, written}

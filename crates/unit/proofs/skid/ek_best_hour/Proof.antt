@@ -1,7 +1,7 @@
 -- `ek_best_hour` hands out what the floor below answers.
 use mathlib.Core.Path.{_∙_, ap}
 use borrow.Author.Needs.{needs}
-use Rattle.records.specs.Vectors.{fvecsHour}
+use Rattle.records.specs.Eight.Vectors.{fvecsHour}
 use Rattle.stores.specs.Stores.{bestHour}
 use Rattle.refusals.specs.declared.settings.Settings.{Settings}
 use Rattle.unit.specs.Answers.{hourOut}

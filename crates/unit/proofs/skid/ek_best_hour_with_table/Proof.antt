@@ -2,7 +2,7 @@
 use mathlib.Core.Path.{_∙_, ap}
 use borrow.Author.Needs.{needs}
 use lib.ListN.{length}
-use Rattle.records.specs.Vectors.{fvecsHour}
+use Rattle.records.specs.Eight.Vectors.{fvecsHour}
 use Rattle.stores.specs.Tabled.{bestHourBy, bestHourTable}
 use Rattle.refusals.specs.declared.settings.Settings.{Settings}
 use Rattle.unit.specs.Answers.{hourOut}

@@ -3,8 +3,9 @@ use mathlib.Core.Path.{_∙_, ap}
 use borrow.Author.Needs.{needs}
 use Rattle.refusals.specs.declared.settings.Settings.{Settings}
 use lib.ListN.{length}
+use Rattle.records.specs.Code.{eightOf}
 use Rattle.encoding.specs.Encode.{encoded, encodedRoom}
-use Rattle.records.specs.Vectors.{unitsHour}
+use Rattle.records.specs.Eight.Vectors.{unitsHour}
 use Rattle.unit.specs.Answers.{answerOut}
 use Rattle.unit.proofs.skid.ek_encode_units.Statement.{statement}
 use Rattle.unit.proofs.skid.ek_encode_units.Tie as tie
@@ -23,8 +24,8 @@ same-length c = search needs
 
 returns : tie.Need-returns
 returns c = let d = c .before .before .before in let e = d .before .before in let v = e .before .before .args in (
-  c .answer-out .ensures ∙ ap answerOut (d .encode-units .ensures .0 ∙ ap (λ (s : Settings). encoded s (v .steps .now) (unitsHour (v .units .now)) (length (v .out .now))) (e .settings-in .ensures)),
-  d .encode-units .ensures .1 ∙ ap (λ (s : Settings). encodedRoom s (v .steps .now) (unitsHour (v .units .now)) (v .out .now)) (e .settings-in .ensures),
+  c .answer-out .ensures ∙ ap answerOut (d .encode-units .ensures .0 ∙ ap (λ (s : Settings). encoded (eightOf s) s (v .steps .now) (unitsHour (v .units .now)) (length (v .out .now))) (e .settings-in .ensures)),
+  d .encode-units .ensures .1 ∙ ap (λ (s : Settings). encodedRoom (eightOf s) s (v .steps .now) (unitsHour (v .units .now)) (v .out .now)) (e .settings-in .ensures),
 )
 
 pub ek-encode-units-spec : {M : Type 1} → statement M

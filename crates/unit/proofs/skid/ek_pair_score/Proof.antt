@@ -2,7 +2,7 @@
 use mathlib.Core.Path.{_∙_, ap}
 use borrow.Author.Needs.{needs}
 use Rattle.refusals.specs.declared.settings.Settings.{Settings}
-use Rattle.scores.specs.Scores.{pairScore}
+use Rattle.scores.specs.Eight.Scores.{pairScore}
 use Rattle.unit.specs.Answers.{answerOut}
 use Rattle.unit.proofs.skid.ek_pair_score.Statement.{statement}
 use Rattle.unit.proofs.skid.ek_pair_score.Tie as tie

@@ -2,8 +2,8 @@
 use mathlib.Core.Path.{_∙_, ap}
 use borrow.Author.Needs.{needs}
 use Rattle.refusals.specs.declared.settings.Settings.{Settings}
-use Rattle.records.specs.Vectors.{fvecsHour}
-use Rattle.scores.specs.Scores.{queryScore}
+use Rattle.records.specs.Eight.Vectors.{fvecsHour}
+use Rattle.scores.specs.Eight.Scores.{queryScore}
 use Rattle.unit.specs.Answers.{answerOut}
 use Rattle.unit.proofs.skid.ek_query_score.Statement.{statement}
 use Rattle.unit.proofs.skid.ek_query_score.Tie as tie
