@@ -3,7 +3,7 @@
 
 all:
 	rt check
-	rt staticlib unit
+	rt staticlib enkhovrag
 	bash examples/run
 	target/bin/show < crates/show/stdin
 

@@ -1,4 +1,4 @@
-/* Enkhovrag: a verified dosing coder. Link libunit.a; nothing else is needed.
+/* Enkhovrag: a verified dosing coder. Link libenkhovrag.a; nothing else is needed.
  *
  * Every answer has a number: 0 is accepted; any other is the refusal of that number, with its place, and all values 0. Of several
  * faults the one answered is the first in the order that a function's comment names them in. A refusal leaves all lent memory as it

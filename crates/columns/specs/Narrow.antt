@@ -7,8 +7,7 @@ use lib.Dec.{eqb}
 use lib.IntN.{ℤ, pos, negℤ, natAbs, _+ℤ_, _-ℤ_, _*ℤ_}
 use lib.ListN.{length}
 use lib.Signed.{_≤ℤ_, _<ℤ_}
-use Rattle.integers.specs.Laws.Loops.{range}
-use Rattle.integers.specs.Vectors.{«at»}
+use Rattle.integers.specs.Vectors.{«at», range}
 use Rattle.rounding.specs.declared.half.Mend.{Mend}
 use Rattle.rounding.specs.declared.half.Scan.{Scan}
 use Rattle.columns.specs.declared.narrow.Choice as choices

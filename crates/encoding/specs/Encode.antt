@@ -17,7 +17,7 @@ use Rattle.refusals.specs.Answers.{valued, written}
 use Rattle.refusals.specs.Settings.{checkSettings}
 use Rattle.refusals.specs.Steps.{checkSteps}
 use Rattle.refusals.specs.Verdicts.{unless, firstRefusal}
-use Rattle.records.specs.Code.{Code, sizeOf}
+use Rattle.layers.specs.Code.{Code, sizeOf}
 use Rattle.records.specs.Codes.{blockSize, codeLength}
 use Rattle.records.specs.Vectors.{Hour, checkReadings, unitsTaken, blocksOf, inBlocks}
 

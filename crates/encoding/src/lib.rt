@@ -13,7 +13,7 @@ ghost use Rattle.refusals.specs.declared.Verdict.the-variants.{Accepted};
 ghost use Rattle.refusals.specs.declared.Refusal.the-variants.{Size};
 ghost use Rattle.refusals.specs.Answers.{valued, written};
 ghost use Rattle.refusals.specs.Verdicts.{unless, firstRefusal};
-ghost use Rattle.records.specs.Code.{code8, sizeOf, codeOf};
+ghost use Rattle.layers.specs.Code.{code8, sizeOf, codeOf};
 ghost use Rattle.records.specs.Codes.{Coder, blockBytes, codeLength};
 ghost use Rattle.encoding.specs.Encode.{checkFits, codeBytes, codeRecord, encodeAsked, encoded, encodedRoom};
 ghost use Rattle.records.specs.Vectors.{unitsHour, fvecsHour, checkReadings, inBlocks, UnitsTaken};

@@ -3,7 +3,7 @@ use mathlib.Core.Path.{_≡_}
 use mathlib.Core.Logic.{_⊎_}
 use mathlib.Core.Bool.{Bool, true, _&&_}
 use mathlib.Core.List.{List, [], _∷_, map}
-use Prim.Native.Nat.{ℕ, _≤_}
+use Prim.Native.Nat.{ℕ, zero, suc, _≤_}
 use lib.IntN.{ℤ, pos, negℤ, natAbs, _+ℤ_, _*ℤ_}
 use lib.ListN.{length, getD, replicate}
 use lib.Signed.{_<ℤ_, leZ}
@@ -61,6 +61,13 @@ Bounded B a = (i : ℕ) → natAbs («at» a i) ≤ B
 pub record Sized (n B : ℕ) (a : List ℤ) : Type 0 where
   pub long : length a ≡ n
   pub small : Bounded B a
+
+-- ---- whole numbers in a row
+
+-- i, i + 1 .. i + n - 1
+abbrev pub range : ℕ → ℕ → List ℕ
+range i zero = []
+range i (suc n) = i ∷ range (suc i) n
 
 -- ---- tests
 

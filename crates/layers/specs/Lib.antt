@@ -5,5 +5,6 @@ pub mod Digits
 pub mod Sums
 pub mod Sizes
 pub mod E8
+pub mod Code
 pub mod Table
 pub mod Laws

@@ -3,7 +3,7 @@ use mathlib.Core.Path.{_≡_}
 use mathlib.Core.List.{List, map}
 use Prim.Native.Nat.{ℕ}
 use lib.IntN.{ℤ}
-use Rattle.integers.specs.Laws.Loops.{range}
+use Rattle.integers.specs.Vectors.{range}
 use Rattle.layers.specs.Digits.{joined, digitsOf}
 use Rattle.layers.specs.E8.{layerPoint8}
 

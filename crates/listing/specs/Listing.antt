@@ -18,7 +18,7 @@ use Rattle.refusals.specs.Limits.{mMost}
 use Rattle.refusals.specs.Verdicts.{rowOf, spotOf, unless}
 use Rattle.records.specs.Eight.Codes.{codeLength, stepOf, wholePoint}
 use Rattle.records.specs.Eight.Vectors.{unitsHour}
-use Rattle.records.specs.Code.{eightOf}
+use Rattle.layers.specs.Code.{eightOf}
 use Rattle.encoding.specs.Encode.{checkEncode}
 use Rattle.texts.specs.Text.{bytes, newline, space, minus, lineOf, numbers, settingsIn, wellFormed}
 

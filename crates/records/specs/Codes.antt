@@ -15,11 +15,13 @@ use Rattle.readings.specs.Words.{wordAt}
 use Rattle.refusals.specs.declared.Refusal.the-variants.{Byte, Record}
 use Rattle.refusals.specs.declared.Verdict.{Verdict}
 use Rattle.refusals.specs.declared.Verdict.the-variants.{Accepted, Refused}
-use Rattle.refusals.specs.Laws.Allowed.{AllowedSteps}
+use Rattle.refusals.specs.declared.settings.Settings.{Settings}
+use Rattle.refusals.specs.Settings.{Allowed}
+use Rattle.refusals.specs.Steps.{AllowedSteps}
 use Rattle.refusals.specs.Limits.{qMost, mMost, powerMost}
 use Rattle.refusals.specs.Verdicts.{unless, firstRefusal}
-use Rattle.records.specs.Code.{Code, sizeOf}
-use Rattle.records.specs.Frames.{goodRecord}
+use Rattle.layers.specs.Code.{Code, sizeOf}
+use Rattle.records.specs.Frames.{goodRecord, Framed}
 
 -- a block's bytes: T, then n digits for each of m layers
 abbrev pub blockBytes : ℕ → ℕ → ℕ
@@ -87,6 +89,11 @@ pub record Coder (q : ℤ) (m : ℕ) (steps : List ℤ) : Type 0 where
   pub power : natAbs q ^ m ≤ powerMost
   pub listed : AllowedSteps steps
 
+-- settings and a step list that were taken
+pub record CoderTaken (c : Settings) (steps : List ℤ) : Type 0 where
+  pub allowed : Allowed (c .q) (c .m)
+  pub coder : Coder (c .q) (natAbs (c .m)) steps
+
 -- a block: T below the number of steps, then the digits of m layers, below q
 pub record IsBlock (steps : ℕ) (C : Code) (b : List ℕ) : Type 0 where
   pub long : length b ≡ blockSize C
@@ -102,3 +109,8 @@ pub record AreBlocks (steps : ℕ) (C : Code) (k : ℕ) (f : List ℕ) : Type 0 
 pub record AreCodes (C : Code) (k : ℕ) (f : List ℕ) : Type 0 where
   pub long : blockSize C * k ≤ length f
   pub each : (i : ℕ) → i < k → IsCode (sizeOf C) (C .q) (C .m) (drop 1 (take (blockSize C) (drop (blockSize C * i) f)))
+
+-- a code record of least to most blocks
+pub record RecordTaken (steps : ℕ) (C : Code) (least most : ℕ) (b : List ℕ) : Type 0 where
+  pub frame : Framed 1 (blockSize C) least most b
+  pub blocks : AreBlocks steps C (blocksIn C b) (drop 4 b)

@@ -1,6 +1,5 @@
 -- Records. Definitions stand here; `Laws` holds what is proved of them.
 pub mod Frames
-pub mod Code
 pub mod Vectors
 pub mod Codes
 pub mod Laws

@@ -5,8 +5,7 @@ use mathlib.Core.List.{List, [], _∷_, map}
 use Prim.Native.Nat.{ℕ, suc, _+_, _*_, _/_, _^_}
 use lib.IntN.{ℤ}
 use lib.ListN.{length}
-use Rattle.integers.specs.Laws.Loops.{range}
-use Rattle.integers.specs.Vectors.{Bounded}
+use Rattle.integers.specs.Vectors.{Bounded, range}
 use Rattle.layers.specs.Digits.{cut}
 use Rattle.readings.specs.declared.Measured.{Measured}
 use Rattle.readings.specs.declared.Measured.the-variants as measured

@@ -1,6 +1,7 @@
 -- Which settings are allowed (01, Layers and steps).
+use mathlib.Core.Path.{_≡_}
 use mathlib.Core.Bool.{Bool, _&&_}
-use Prim.Native.Nat.{_^_}
+use Prim.Native.Nat.{_^_, _≤_}
 use lib.Dec.{leb}
 use lib.IntN.{ℤ, pos, natAbs}
 use Rattle.refusals.specs.declared.settings.Settings.{Settings as Chosen}
@@ -17,3 +18,13 @@ goodSettings q m = within (pos qLeast) (pos qMost) q && (within (pos mLeast) (po
 -- refusal 1 where they are not
 abbrev pub checkSettings : Chosen → Verdict
 checkSettings c = unless (goodSettings (c .q) (c .m)) Settings
+
+-- settings within their limits
+pub record Allowed (q m : ℤ) : Type 0 where
+  pub q-whole : pos (natAbs q) ≡ q
+  pub q-least : qLeast ≤ natAbs q
+  pub q-most : natAbs q ≤ qMost
+  pub m-whole : pos (natAbs m) ≡ m
+  pub m-least : mLeast ≤ natAbs m
+  pub m-most : natAbs m ≤ mMost
+  pub power : natAbs q ^ natAbs m ≤ powerMost

@@ -1,8 +1,7 @@
 // The settings q and M.
 ghost use mathlib.Core.Path.{_≡_};
 ghost use lib.IntN.{natAbs};
-ghost use Rattle.refusals.specs.Laws.Allowed.{Allowed};
-ghost use Rattle.refusals.specs.Settings.{goodSettings, checkSettings};
+ghost use Rattle.refusals.specs.Settings.{goodSettings, checkSettings, Allowed};
 use crate::Refusal;
 use crate::Verdict;
 

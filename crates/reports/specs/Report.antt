@@ -6,8 +6,7 @@ use lib.Dec.{eqb}
 use lib.IntN.{ℤ, pos, natAbs}
 use lib.ListN.{length, replicate}
 use Rattle.blocks.specs.Trials.{blockCode}
-use Rattle.integers.specs.Laws.Loops.{range}
-use Rattle.integers.specs.Vectors.{«at»}
+use Rattle.integers.specs.Vectors.{«at», range}
 use Rattle.layers.specs.E8.{e8, nearest}
 use Rattle.readings.specs.declared.Reading.{Reading}
 use Rattle.readings.specs.Report.{Reportable, reportReading}
@@ -20,7 +19,7 @@ use Rattle.refusals.specs.Steps.{checkSteps}
 use Rattle.refusals.specs.Verdicts.{unless, firstRefusal}
 use Rattle.reports.specs.declared.ReportAnswer.{ReportAnswer}
 use Rattle.records.specs.Eight.Codes.{stepOf, wholePoint}
-use Rattle.records.specs.Code.{code8}
+use Rattle.layers.specs.Code.{code8}
 use Rattle.encoding.specs.Encode.{checkFits}
 use Rattle.records.specs.Eight.Vectors.{unitsHour, checkReadings}
 

@@ -5,7 +5,7 @@ ghost use lib.IntN.{natAbs};
 ghost use Rattle.blocks.specs.Limits.{Block};
 ghost use Rattle.refusals.specs.declared.Verdict.the-variants.{Refused};
 ghost use Rattle.records.specs.Eight.Codes.{Coder};
-ghost use Rattle.records.specs.Code.{code8};
+ghost use Rattle.layers.specs.Code.{code8};
 ghost use Rattle.encoding.specs.Encode.{checkFits};
 ghost use Rattle.reports.specs.Report.{checkGiven, readingReports, blockReport, noReadings, reported, report, Reportables};
 use layers::points;

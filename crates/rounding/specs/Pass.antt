@@ -5,8 +5,7 @@ use Prim.Native.Nat.{ℕ, zero, suc, _+_, _*_, _-_, _/_, _%_, _^_, _≤_, min, m
 use lib.Dec.{eqb, ltb}
 use lib.IntN.{ℤ, pos, negsuc, natAbs, _+ℤ_, _-ℤ_, _*ℤ_}
 use lib.Signed.{ltZ}
-use Rattle.integers.specs.Laws.Loops.{range}
-use Rattle.integers.specs.Vectors.{square, «at»}
+use Rattle.integers.specs.Vectors.{square, «at», range}
 use Rattle.rounding.specs.declared.half.Mend.{Mend}
 use Rattle.rounding.specs.declared.half.Scan.{Scan}
 use Rattle.rounding.specs.declared.point.Choice.{Choice}

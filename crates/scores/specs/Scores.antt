@@ -5,17 +5,16 @@ use lib.IntN.{ℤ, pos, _+ℤ_, _*ℤ_}
 use lib.ListN.{length, getD}
 use Rattle.integers.specs.Floor.{floorDiv}
 use Rattle.integers.specs.Vectors.{dot, Sized}
-use Rattle.records.specs.Code.{Code, sizeOf}
+use Rattle.layers.specs.Code.{Code, sizeOf}
 use Rattle.records.specs.Codes.{blockSize, blocksIn, codeBlocks, checkFrame, checkBlocks, stepOf, wholePoint}
 use Rattle.records.specs.Vectors.{Hour, checkReadings, unitsTaken, blocksOf, inBlocks}
 use Rattle.refusals.specs.declared.Answer.{Answer}
 use Rattle.refusals.specs.declared.settings.Settings.{Settings}
 use Rattle.refusals.specs.declared.Verdict.{Verdict}
 use Rattle.refusals.specs.Answers.{valued}
-use Rattle.refusals.specs.Laws.Allowed.{AllowedSteps}
 use Rattle.refusals.specs.Limits.{blocksMost}
 use Rattle.refusals.specs.Settings.{checkSettings}
-use Rattle.refusals.specs.Steps.{checkSteps}
+use Rattle.refusals.specs.Steps.{checkSteps, AllowedSteps}
 use Rattle.refusals.specs.Verdicts.{firstRefusal}
 
 -- f of the first of each list, of the second of each, and so on, together

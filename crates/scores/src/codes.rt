@@ -3,7 +3,7 @@ ghost use mathlib.Core.Path.{_≡_};
 ghost use mathlib.Core.List.{[], _∷_};
 ghost use Prim.Native.Nat.{_+_, _^_, _<_, _≤_};
 ghost use lib.ListN.{length};
-ghost use Rattle.records.specs.Code.{code8};
+ghost use Rattle.layers.specs.Code.{code8};
 ghost use Rattle.records.specs.Codes.{blocksIn};
 ghost use Rattle.refusals.specs.Limits.{blocksMost};
 ghost use Rattle.refusals.specs.Verdicts.{firstRefusal};

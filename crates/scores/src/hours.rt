@@ -2,7 +2,7 @@
 ghost use mathlib.Core.Path.{_≡_};
 ghost use Prim.Native.Nat.{_≤_};
 ghost use lib.ListN.{length};
-ghost use Rattle.records.specs.Code.{sizeOf, codeOf};
+ghost use Rattle.layers.specs.Code.{sizeOf, codeOf};
 ghost use Rattle.records.specs.Vectors.{unitsHour, fvecsHour};
 ghost use Rattle.scores.specs.Hours.{checkHour, hourRoom};
 use readings::words;

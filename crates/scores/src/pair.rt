@@ -5,7 +5,7 @@ ghost use lib.IntN.{natAbs, _*ℤ_};
 ghost use lib.ListN.{length};
 ghost use Rattle.layers.specs.Digits.{cut};
 ghost use Rattle.layers.specs.Table.{TableFor};
-ghost use Rattle.records.specs.Code.{code8, codeOf};
+ghost use Rattle.layers.specs.Code.{code8, codeOf};
 ghost use Rattle.records.specs.Codes.{Coder, AreBlocks, blockBytes, stepOf};
 ghost use Rattle.scores.specs.Scores.{Scored, total, inner, blockPair, checkPair, pairScore};
 use crate::codes;

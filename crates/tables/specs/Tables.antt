@@ -2,8 +2,7 @@
 use mathlib.Core.List.{List, map}
 use Prim.Native.Nat.{ℕ, _^_}
 use lib.IntN.{ℤ}
-use Rattle.integers.specs.Laws.Loops.{range}
-use Rattle.integers.specs.Vectors.{dot}
+use Rattle.integers.specs.Vectors.{dot, range}
 use Rattle.layers.specs.Digits.{joined, digitsOf}
 use Rattle.layers.specs.E8.{layerPoint8}
 use Rattle.records.specs.Eight.Vectors.{inBlocks}

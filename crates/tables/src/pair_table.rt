@@ -6,7 +6,7 @@ ghost use lib.ListN.{length, drop};
 ghost use Rattle.layers.specs.Digits.{IsLayer};
 ghost use Rattle.layers.specs.E8.{layerPoint8};
 ghost use Rattle.layers.specs.Table.{layerTable};
-ghost use Rattle.refusals.specs.Laws.Allowed.{Allowed};
+ghost use Rattle.refusals.specs.Settings.{Allowed};
 ghost use Rattle.refusals.specs.Verdicts.{firstRefusal};
 ghost use Rattle.tables.specs.Filling.{checkTable, checkEntries, checkPairTable, pairFilled, pairTableRoom};
 ghost use Rattle.tables.specs.Tables.{pairMost, pairSize, pairRow, pairTable};

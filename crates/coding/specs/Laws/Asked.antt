@@ -16,10 +16,10 @@ use Rattle.integers.specs.Laws.Linear.{Z, abs-parts}
 use Rattle.integers.specs.Laws.Sums.{sized-more}
 use Rattle.integers.specs.Laws.Tests.{and-true, sized-small}
 use Rattle.integers.specs.Vectors.{Sized, small}
-use Rattle.refusals.specs.Laws.Allowed.{Allowed, settings-allowed}
+use Rattle.refusals.specs.Laws.Allowed.{settings-allowed}
 use Rattle.refusals.specs.Laws.Verdicts.{refused-never, unless-accepted, first-accepted}
 use Rattle.refusals.specs.Limits.{pointMost}
-use Rattle.refusals.specs.Settings.{checkSettings}
+use Rattle.refusals.specs.Settings.{checkSettings, Allowed}
 use Rattle.refusals.specs.Verdicts.{unless}
 use Rattle.lattice.specs.Doubled.{isPoint}
 use Rattle.coding.specs.Answers.{checkPoint, checkBelow, checkDigits}

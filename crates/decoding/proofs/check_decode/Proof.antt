@@ -20,9 +20,9 @@ use Rattle.refusals.specs.Verdicts.{unless, firstRefusal}
 use Rattle.layers.specs.Digits.{cut}
 use Rattle.records.specs.Eight.Codes.{blockSize, blocksIn, codeBlocks, checkBlocks}
 use Rattle.decoding.specs.Decode.{fvecsLength, checkDecode}
-use Rattle.records.specs.Frames.{goodRecord}
+use Rattle.records.specs.Frames.{goodRecord, Framed}
 use Rattle.records.specs.Eight.Asked.{CoderTaken, coder-accepted, frame-holds}
-use Rattle.records.specs.Laws.Frames.{Framed, record-framed}
+use Rattle.records.specs.Laws.Frames.{record-framed}
 use Rattle.decoding.proofs.check_decode.Statement.{statement}
 use Rattle.decoding.proofs.check_decode.Tie as tie
 

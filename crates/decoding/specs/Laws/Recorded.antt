@@ -18,7 +18,7 @@ use Rattle.readings.specs.Words.{wordAt}
 use Rattle.refusals.specs.declared.Verdict.the-variants.{Accepted}
 use Rattle.refusals.specs.Limits.{blocksMost, mMost}
 use Rattle.records.specs.Eight.Codes.{blockSize, blocksIn, codeBlocks, checkBlocks, Coder, IsBlock, stepOf, wholePoint}
-use Rattle.records.specs.Code.{code8}
+use Rattle.layers.specs.Code.{code8}
 use Rattle.encoding.specs.Encode.{codeBytes, codeRecord}
 use Rattle.records.specs.Frames.{goodRecord}
 use Rattle.records.specs.Eight.Asked.{coder-positive, steps-positive, blocks-accepted}

@@ -20,13 +20,14 @@ use Rattle.refusals.specs.Steps.{checkSteps}
 use Rattle.refusals.specs.Verdicts.{unless}
 use Rattle.records.specs.Eight.Codes.{blockSize, codeLength, blocksIn, codeBlocks, stepOf, wholePoint}
 use Rattle.decoding.specs.Decode.{fvecsLength, checkDecode}
-use Rattle.records.specs.Code.{code8, eightOf}
+use Rattle.layers.specs.Code.{code8, eightOf}
 use Rattle.encoding.specs.Encode.{codeRecord, encodeAsked, checkEncode, encodedRoom}
 use Rattle.decoding.specs.Laws.Decode.{decode-accepted}
 use Rattle.encoding.specs.Laws.Theorems.{encode-accepted}
 use Rattle.encoding.specs.Laws.Encoded.{EncodeTaken, encode-taken}
 use Rattle.encoding.specs.Laws.Fitting.{AllFitted}
-use Rattle.records.specs.Laws.Frames.{Whole, blocks-whole}
+use Rattle.records.specs.Laws.Frames.{blocks-whole}
+use Rattle.records.specs.Frames.{Whole}
 use Rattle.records.specs.Eight.Hours.{Sound}
 use Rattle.records.specs.Laws.Parts.{cut-long, cut-at}
 use Rattle.decoding.specs.Laws.Recorded.{record-count, record-good, block-bytes, encode-decodes, encoded-good}

@@ -13,12 +13,13 @@ use Rattle.refusals.specs.declared.Verdict.the-variants.{Accepted, Refused}
 use Rattle.refusals.specs.Laws.Verdicts.{first-last}
 use Rattle.refusals.specs.Verdicts.{unless, firstRefusal}
 use Rattle.records.specs.Eight.Codes.{codeLength}
-use Rattle.records.specs.Code.{eightOf}
+use Rattle.layers.specs.Code.{eightOf}
 use Rattle.encoding.specs.Encode.{encodeAsked}
 use Rattle.records.specs.Eight.Vectors.{Hour, fvecsHour, blocksOf}
 use Rattle.records.specs.Eight.Asked.{CoderTaken, coder-accepted}
 use Rattle.encoding.specs.Laws.Encoded.{asked-is}
-use Rattle.records.specs.Laws.Frames.{Framed, record-framed}
+use Rattle.records.specs.Laws.Frames.{record-framed}
+use Rattle.records.specs.Frames.{Framed}
 use Rattle.records.specs.Eight.Hours.{fvecs-count}
 use Rattle.encoding.proofs.check_fvecs_hour.Statement.{statement}
 use Rattle.encoding.proofs.check_fvecs_hour.Tie as tie

@@ -15,7 +15,7 @@ use Rattle.refusals.specs.declared.Verdict.the-variants.{Accepted, Refused}
 use Rattle.refusals.specs.Laws.Verdicts.{first-last}
 use Rattle.refusals.specs.Verdicts.{unless, firstRefusal}
 use Rattle.records.specs.Eight.Codes.{codeLength}
-use Rattle.records.specs.Code.{eightOf}
+use Rattle.layers.specs.Code.{eightOf}
 use Rattle.encoding.specs.Encode.{encodeAsked}
 use Rattle.records.specs.Eight.Vectors.{Hour, unitsHour, checkReadings, blocksOf}
 use Rattle.records.specs.Eight.Asked.{CoderTaken, coder-accepted}

@@ -20,7 +20,7 @@ use Rattle.blocks.specs.Trials.{firstFitting, blockCode, triedRoom}
 use Rattle.blocks.specs.Laws.Theorems.{tried-block8}
 use Rattle.refusals.specs.Laws.Verdicts.{refused-never}
 use Rattle.records.specs.Eight.Codes.{blockSize}
-use Rattle.records.specs.Code.{code8}
+use Rattle.layers.specs.Code.{code8}
 use Rattle.encoding.specs.Encode.{checkFits, codeBytes}
 use Rattle.encoding.specs.Laws.Encode.{fits-next, fits-none, codeBytes-long, codeBytes-more}
 use Rattle.records.specs.Laws.Parts.{part-ends, cut-whole, cut-next, cut-long}

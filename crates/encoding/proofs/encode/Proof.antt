@@ -15,11 +15,11 @@ use Rattle.refusals.specs.declared.Verdict.the-variants.{Accepted}
 use Rattle.refusals.specs.Answers.{valued, written}
 use Rattle.refusals.specs.Verdicts.{firstRefusal}
 use Rattle.records.specs.Eight.Codes.{Coder, codeLength}
-use Rattle.records.specs.Code.{code8, eightOf}
+use Rattle.layers.specs.Code.{code8, eightOf}
 use Rattle.encoding.specs.Encode.{checkFits, codeRecord, encodeAsked}
 use Rattle.records.specs.Eight.Vectors.{Hour, fvecsHour, checkReadings, unitsTaken, inBlocks, UnitsTaken}
 use Rattle.encoding.specs.Laws.Encoded.{EncodeTaken, asked-framed, encode-taken, encoded-is, encodedRoom-is, encoded-refused, encodedRoom-refused}
-use Rattle.records.specs.Laws.Frames.{Framed}
+use Rattle.records.specs.Frames.{Framed}
 use Rattle.records.specs.Eight.Hours.{fvecs-sound, fvecs-count}
 use Rattle.encoding.proofs.encode.Statement.{statement}
 use Rattle.encoding.proofs.encode.Tie as tie

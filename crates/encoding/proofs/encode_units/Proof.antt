@@ -14,7 +14,7 @@ use Rattle.refusals.specs.Answers.{valued, written}
 use Rattle.refusals.specs.Laws.Verdicts.{first-accepted}
 use Rattle.refusals.specs.Verdicts.{firstRefusal}
 use Rattle.records.specs.Eight.Codes.{Coder, codeLength}
-use Rattle.records.specs.Code.{code8, eightOf}
+use Rattle.layers.specs.Code.{code8, eightOf}
 use Rattle.encoding.specs.Encode.{checkFits, codeRecord, encodeAsked}
 use Rattle.records.specs.Eight.Vectors.{Hour, unitsHour, checkReadings, unitsTaken, inBlocks, UnitsTaken}
 use Rattle.encoding.specs.Laws.Encoded.{EncodeTaken, encode-taken, encoded-is, encodedRoom-is, encoded-refused, encodedRoom-refused}

@@ -17,13 +17,14 @@ use Rattle.refusals.specs.declared.Verdict.{Verdict}
 use Rattle.refusals.specs.declared.Verdict.the-variants.{Accepted}
 use Rattle.refusals.specs.Answers.{valued, written}
 use Rattle.records.specs.Eight.Codes.{blockSize, codeLength}
-use Rattle.records.specs.Code.{code8}
+use Rattle.layers.specs.Code.{code8}
 use Rattle.encoding.specs.Encode.{checkFits, codeBytes, codeRecord}
 use Rattle.records.specs.Eight.Vectors.{inBlocks}
 use Rattle.records.specs.Eight.Asked.{used-steps}
 use Rattle.encoding.specs.Laws.Encode.{codeBytes-long, codeRecord-long}
 use Rattle.records.specs.Laws.Parts.{cut-long, write-rest}
-use Rattle.records.specs.Laws.Frames.{Whole, blocks-whole}
+use Rattle.records.specs.Laws.Frames.{blocks-whole}
+use Rattle.records.specs.Frames.{Whole}
 use Rattle.encoding.proofs.put_record.Statement.{statement}
 use Rattle.encoding.proofs.put_record.Tie as tie
 

@@ -13,7 +13,7 @@ use Rattle.layers.specs.Digits.{cut}
 use Rattle.layers.specs.E8.{e8, nearest}
 use Rattle.refusals.specs.declared.Refusal.the-variants.{Overload}
 use Rattle.refusals.specs.declared.Verdict.the-variants.{Refused}
-use Rattle.records.specs.Code.{Code, code8}
+use Rattle.layers.specs.Code.{Code, code8}
 use Rattle.records.specs.Codes.{blockBytes, codeLength}
 use Rattle.encoding.specs.Encode.{checkFits, codeBytes, codeRecord}
 use Rattle.records.specs.Laws.Parts.{cut-more, joined-more}

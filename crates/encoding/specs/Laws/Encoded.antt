@@ -17,12 +17,12 @@ use Rattle.refusals.specs.Limits.{blocksMost}
 use Rattle.refusals.specs.Settings.{checkSettings}
 use Rattle.refusals.specs.Steps.{checkSteps}
 use Rattle.refusals.specs.Verdicts.{unless, firstRefusal}
-use Rattle.records.specs.Code.{Code, sizeOf}
-use Rattle.records.specs.Codes.{codeLength}
+use Rattle.layers.specs.Code.{Code, sizeOf}
+use Rattle.records.specs.Codes.{codeLength, CoderTaken}
 use Rattle.encoding.specs.Encode.{checkFits, codeRecord, encodeAsked, checkEncode, encoded, encodedRoom}
-use Rattle.records.specs.Frames.{wholeBlocks}
-use Rattle.records.specs.Laws.Asked.{CoderTaken, coder-taken}
-use Rattle.records.specs.Laws.Frames.{Framed, record-framed}
+use Rattle.records.specs.Frames.{wholeBlocks, Framed}
+use Rattle.records.specs.Laws.Asked.{coder-taken}
+use Rattle.records.specs.Laws.Frames.{record-framed}
 use Rattle.records.specs.Laws.Hours.{Sound, units-small, taken-all}
 use Rattle.records.specs.Vectors.{Hour, fvecsHour, checkReadings, unitsTaken, blocksOf, inBlocks, UnitsTaken}
 

@@ -16,7 +16,7 @@ use Rattle.refusals.specs.declared.Refusal.the-variants.{Overload}
 use Rattle.refusals.specs.declared.Verdict.{Verdict}
 use Rattle.refusals.specs.declared.Verdict.the-variants.{Accepted, Refused}
 use Rattle.refusals.specs.Laws.Verdicts.{refused-never}
-use Rattle.records.specs.Code.{Code}
+use Rattle.layers.specs.Code.{Code}
 use Rattle.encoding.specs.Encode.{checkFits}
 use Rattle.encoding.specs.Laws.Encode.{fits-next, fits-none}
 

@@ -16,7 +16,7 @@ use Rattle.refusals.specs.declared.Refusal.the-variants.{Missing, OutOfRange}
 use Rattle.refusals.specs.declared.Verdict.{Verdict}
 use Rattle.refusals.specs.declared.Verdict.the-variants.{Accepted, Refused}
 use Rattle.refusals.specs.Laws.Verdicts.{first-accepted}
-use Rattle.records.specs.Code.{Code, sizeOf}
+use Rattle.layers.specs.Code.{Code, sizeOf}
 use Rattle.encoding.specs.Encode.{checkFits, encodeAsked, checkEncode}
 use Rattle.encoding.specs.Laws.Encoded.{encode-refused, encode-last}
 use Rattle.encoding.specs.Laws.Fitting.{AllFitted, accepted-iff}

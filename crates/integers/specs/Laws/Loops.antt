@@ -7,6 +7,7 @@ use native.Mathlib.Nat.{suc-inj}
 use native.Mathlib.Omega.{arith}
 use lib.ListN.{length, getD, take, drop, set, length-set, length-drop}
 use lib.Seq.{take-suc, take-suc-set, take-all}
+use Rattle.integers.specs.Vectors.{range}
 
 -- a loop that fills r by f of each entry of a: after i turns the first i are right
 module _ {A B : Type 0} (f : A → B) where
@@ -43,11 +44,6 @@ pub map-at : {A B : Type 0} (f : A → B) (l : List A) (i : ℕ) (d : A) (e : B)
 map-at f [] i d e h = absurd (omega arith)
 map-at f (x ∷ l) zero d e h = refl
 map-at f (x ∷ l) (suc i) d e h = map-at f l i d e (omega arith)
-
--- i, i + 1 .. i + n - 1
-abbrev pub range : ℕ → ℕ → List ℕ
-range i zero = []
-range i (suc n) = i ∷ range (suc i) n
 
 pub range-long : (i n : ℕ) → length (range i n) ≡ n
 range-long i zero = refl

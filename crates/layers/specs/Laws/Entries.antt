@@ -8,7 +8,7 @@ use lib.IntN.{ℤ}
 use lib.ListN.{length, getD, take, drop, length-append, length-drop, take-append-drop}
 use lib.Pow.{pow-add}
 use lib.Seq.{take-at, drop-at, drop-cons, drop-drop, take-all, length-take-le}
-use Rattle.integers.specs.Laws.Loops.{range}
+use Rattle.integers.specs.Vectors.{range}
 use Rattle.layers.specs.Digits.{Below, IsLayer, joined, entryOf, powers, digitsOf}
 
 pub entryOf-less : (q : ℕ) (ds : List ℕ) → Below q ds → entryOf q ds < q ^ length ds

@@ -34,7 +34,7 @@ use Rattle.records.specs.Frames.{wholeBlocks}
 use Rattle.records.specs.Eight.Asked.{CoderTaken, coder-taken, coder-positive, steps-positive}
 use Rattle.records.specs.Eight.Hours.{units-taken}
 use Rattle.records.specs.Eight.Vectors.{Hour, unitsHour, checkReadings, unitsTaken, blocksOf, inBlocks}
-use Rattle.records.specs.Code.{code8, eightOf}
+use Rattle.layers.specs.Code.{code8, eightOf}
 use Rattle.encoding.specs.Encode.{checkFits, codeBytes, codeRecord, encodeAsked, checkEncode, encoded, encodedRoom}
 use Rattle.encoding.specs.Laws.Encode.{fits-none}
 use Rattle.listing.specs.Listing.{blockListing, refusalLine, printed, checkShown, blockShown, shown}

@@ -9,7 +9,8 @@ use lib.IntN.{ℤ, pos, natAbs}
 use lib.ListN.{length, getD, drop, length-append}
 use Rattle.layers.specs.Digits.{IsCode}
 use Rattle.records.specs.Eight.Codes.{blocksIn, codeBlocks}
-use Rattle.records.specs.Laws.Frames.{Whole, blocks-whole}
+use Rattle.records.specs.Laws.Frames.{blocks-whole}
+use Rattle.records.specs.Frames.{Whole}
 use Rattle.records.specs.Eight.Hours.{Sound}
 use Rattle.records.specs.Eight.Vectors.{Hour, unitsTaken, blocksOf}
 use Rattle.refusals.specs.declared.settings.Settings.{Settings}

@@ -5,7 +5,7 @@ use Prim.Native.Nat.{ℕ, _+_, _-_, _<_, _≤_}
 use native.Mathlib.Omega.{arith}
 use lib.IntN.{ℤ, pos}
 use lib.ListN.{length, take, drop, set}
-use Rattle.integers.specs.Laws.Loops.{range}
+use Rattle.integers.specs.Vectors.{range}
 use Rattle.columns.specs.Columns.{column}
 use Rattle.points.specs.Laws.Lanes.{columns-start, columns-more, columns-long}
 use Rattle.points.proofs.put_columns.Statement.{statement}

@@ -9,7 +9,8 @@ use lib.ListN.{length, take, drop}
 use mir.Syntax.{w16}
 use mir.Val.{toZ}
 use mir.Facts.{toZ-ofZ}
-use Rattle.integers.specs.Laws.Loops.{range, rest-whole}
+use Rattle.integers.specs.Laws.Loops.{rest-whole}
+use Rattle.integers.specs.Vectors.{range}
 use Rattle.columns.specs.Columns.{column}
 use Rattle.layers.specs.Digits.{cut}
 use Rattle.records.specs.Eight.Codes.{AreCodes, blockSize, wholePoint}

@@ -7,10 +7,10 @@ use native.Mathlib.Omega.{arith}
 use lib.IntN.{ℤ, pos, natAbs, _+ℤ_, _*ℤ_}
 use lib.ListN.{length, getD, take, drop, replicate, length-drop, length-map, getD-replicate}
 use lib.Seq.{take-at, drop-at, drop-drop, ext-getD}
-use Rattle.integers.specs.Laws.Loops.{map-at, range, range-long, range-at}
+use Rattle.integers.specs.Laws.Loops.{map-at, range-long, range-at}
 use Rattle.integers.specs.Laws.Sizes.{abs-mul}
 use Rattle.integers.specs.Laws.Sums.{entries, lengths, length-scaleV}
-use Rattle.integers.specs.Vectors.{«at», zeros, addV, scaleV, Sized}
+use Rattle.integers.specs.Vectors.{«at», zeros, addV, scaleV, Sized, range}
 use Rattle.columns.specs.Columns.{column, Square8, LayerColumns, PointColumns}
 use Rattle.layers.specs.Digits.{IsLayer, IsCode, cut}
 use Rattle.layers.specs.E8.{e8, nearest, layerPoint8, decode8}

@@ -10,7 +10,8 @@ use native.Mathlib.Omega.{arith}
 use borrow.Author.Tests.{lt-ltb, le-ltb}
 use lib.ListN.{length, getD, take, drop, set, replicate, length-append, length-take, length-drop, length-replicate, length-map, getD-replicate, take-append-drop, replicate-append-replicate}
 use lib.Seq.{take-nil, take-at, take-take, drop-at, drop-drop, drop-cons, set-at, append-snoc, getD-set-same, getD-set-other}
-use Rattle.integers.specs.Laws.Loops.{Filled, filled-more, filled-all, range, range-long}
+use Rattle.integers.specs.Laws.Loops.{Filled, filled-more, filled-all, range-long}
+use Rattle.integers.specs.Vectors.{range}
 use Rattle.columns.specs.Columns.{column, Square8}
 use Rattle.layers.specs.Digits.{IsCode}
 use Rattle.columns.specs.Laws.Columns.{put-square, put-here, put-other}

@@ -7,7 +7,7 @@ use Rattle.readings.specs.Words.{wordAt}
 use Rattle.refusals.specs.declared.Refusal.the-variants.{Record}
 use Rattle.refusals.specs.declared.Verdict.{Verdict}
 use Rattle.refusals.specs.Verdicts.{unless}
-use Rattle.records.specs.Code.{code8}
+use Rattle.layers.specs.Code.{code8}
 use Rattle.records.specs.Codes as code
 use Rattle.records.specs.Frames.{goodRecord}
 pub use Rattle.records.specs.Codes.{stepOf, checkBlock, checkBlocks, AllAccepted, Raised, Digital, Coder}

@@ -15,10 +15,10 @@ use Rattle.refusals.specs.declared.settings.Settings.{Settings}
 use Rattle.refusals.specs.declared.Refusal.the-variants.{Byte, Steps, Record}
 use Rattle.refusals.specs.declared.Verdict.{Verdict}
 use Rattle.refusals.specs.declared.Verdict.the-variants.{Accepted, Refused}
-use Rattle.refusals.specs.Laws.Allowed.{Allowed, AllowedSteps, steps-allowed}
+use Rattle.refusals.specs.Laws.Allowed.{steps-allowed}
 use Rattle.refusals.specs.Laws.Verdicts.{refused-never, unless-accepted, first-accepted, first-last}
-use Rattle.refusals.specs.Settings.{checkSettings}
-use Rattle.refusals.specs.Steps.{checkSteps}
+use Rattle.refusals.specs.Settings.{checkSettings, Allowed}
+use Rattle.refusals.specs.Steps.{checkSteps, AllowedSteps}
 use Rattle.refusals.specs.Verdicts.{firstRefusal}
 use Rattle.blocks.specs.Laws.Sizes.{divisor-positive}
 use Rattle.blocks.specs.Limits.{UsedSteps}
@@ -26,15 +26,11 @@ use Rattle.coding.specs.Answers.{checkBelow}
 use Rattle.layers.specs.Digits.{Below, cut}
 use Rattle.coding.specs.Laws.Asked.{checked-allowed, allowed-base, below-taken, below-accepted}
 use Rattle.layers.specs.Laws.Bases.{base-two}
-use Rattle.records.specs.Code.{Code}
-use Rattle.records.specs.Codes.{Coder, IsBlock, AreBlocks, blockSize, blocksIn, codeBlocks, checkFrame, checkBlock, checkBlocks}
+use Rattle.layers.specs.Code.{Code}
+use Rattle.records.specs.Codes.{Coder, CoderTaken, RecordTaken, IsBlock, AreBlocks, blockSize, blocksIn, codeBlocks, checkFrame, checkBlock, checkBlocks}
 use Rattle.records.specs.Laws.Codes.{block-opened}
-use Rattle.records.specs.Laws.Frames.{Framed, record-framed}
-
--- settings and a step list
-pub record CoderTaken (c : Settings) (steps : List ℤ) : Type 0 where
-  pub allowed : Allowed (c .q) (c .m)
-  pub coder : Coder (c .q) (natAbs (c .m)) steps
+use Rattle.records.specs.Laws.Frames.{record-framed}
+use Rattle.records.specs.Frames.{Framed}
 
 -- checked one after the other
 pub coder-taken : (c : Settings) (place : ℕ) (steps : List ℤ) → checkSettings c ≡ Accepted → checkSteps place steps ≡ Accepted → CoderTaken c steps
@@ -102,11 +98,6 @@ module _ (steps : ℕ) (C : Code) where
   -- k blocks
   pub blocks-taken : (k i : ℕ) (f : List ℕ) → n * k ≤ length f → checkBlocks steps q n i (cut n k f) ≡ Accepted → AreBlocks steps C k f
   blocks-taken k i f h e = record { long = h; each = each-taken k i f h e }
-
--- a code record
-pub record RecordTaken (steps : ℕ) (C : Code) (least most : ℕ) (b : List ℕ) : Type 0 where
-  pub frame : Framed 1 (blockSize C) least most b
-  pub blocks : AreBlocks steps C (blocksIn C b) (drop 4 b)
 
 -- the blocks of a good frame are there
 pub frame-holds : (C : Code) (least most : ℕ) (b : List ℕ) → Framed 1 (blockSize C) least most b → blockSize C * blocksIn C b ≤ length (drop 4 b)

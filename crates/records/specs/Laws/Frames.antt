@@ -10,13 +10,7 @@ use lib.Dec.{eqb, leb}
 use lib.ListN.{length}
 use Rattle.integers.specs.Laws.Tests.{and-true}
 use Rattle.readings.specs.Words.{wordAt}
-use Rattle.records.specs.Frames.{wholeBlocks, goodRecord}
-
--- n is K times size, and K is from least to most
-pub record Whole (size least most n : ℕ) : Type 0 where
-  pub times : n ≡ size * (n / size)
-  pub some : least ≤ n / size
-  pub few : n / size ≤ most
+use Rattle.records.specs.Frames.{wholeBlocks, goodRecord, Whole, Framed}
 
 pub blocks-whole : (size least most n : ℕ) → wholeBlocks size least most n ≡ true → Whole size least most n
 unfolding wholeBlocks
@@ -30,12 +24,6 @@ unfolding wholeBlocks
 whole-blocks size least most K s> h k =
     let n : ℕ = size * K in let e : n / size ≡ K = mul-div-right K s> in
     rw (eq-eqb (n % size) 0 (mul-mod-right size K), le-leb least (n / size) (omega arith), le-leb (n / size) most (omega arith))
-
--- the dimension is there and is so many blocks, and no entry of `width` bytes is cut off
-pub record Framed (width size least most : ℕ) (b : List ℕ) : Type 0 where
-  pub there : 4 ≤ length b
-  pub whole : Whole size least most (wordAt b 0)
-  pub complete : 4 + width * wordAt b 0 ≤ length b
 
 module _ (width size least most : ℕ) (b : List ℕ) (e : goodRecord width size least most b ≡ true) where
   abbrev n : ℕ

@@ -9,7 +9,7 @@ use lib.ListN.{length, getD, take, drop, set, length-set, length-take, length-dr
 use lib.Seq.{getD-set-same, getD-set-other, getD-take, getD-drop}
 use Rattle.layers.specs.Digits.{Below, cut}
 use Rattle.layers.specs.Laws.Rows.{below-at, below-all}
-use Rattle.records.specs.Code.{code8}
+use Rattle.layers.specs.Code.{code8}
 use Rattle.records.specs.Codes.{blockSize, IsBlock, AllAccepted, Raised}
 use Rattle.records.specs.Laws.Asked.{blocks-accepted}
 use Rattle.records.specs.Laws.Parts.{part-ends, cut-long, cut-at}

@@ -8,8 +8,8 @@ use lib.IntN.{ℤ}
 use lib.Ieee.{binary32, ofBits, nanBits}
 use lib.Ieee.Bits.{nanBits-is}
 use lib.ListN.{length, getD, length-map}
-use Rattle.integers.specs.Laws.Loops.{range, range-long, range-at}
-use Rattle.integers.specs.Vectors.{Bounded}
+use Rattle.integers.specs.Laws.Loops.{range-long, range-at}
+use Rattle.integers.specs.Vectors.{Bounded, range}
 use Rattle.readings.specs.declared.Measured.{Measured}
 use Rattle.readings.specs.declared.Measured.the-variants as measured
 use Rattle.readings.specs.Laws.Taking.{units-in-range, units-same, float-in-range, float-missing}

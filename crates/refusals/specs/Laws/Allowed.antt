@@ -15,18 +15,8 @@ use Rattle.integers.specs.Laws.Sizes.{leZ-true, ltZ-true}
 use Rattle.integers.specs.Laws.Tests.{and-true, between}
 use Rattle.integers.specs.Vectors.{«at», within}
 use Rattle.refusals.specs.Limits.{qLeast, qMost, mLeast, mMost, powerMost, stepsMost, stepMost}
-use Rattle.refusals.specs.Settings.{goodSettings}
-use Rattle.refusals.specs.Steps.{rising, goodSteps}
-
--- settings within their limits
-pub record Allowed (q m : ℤ) : Type 0 where
-  pub q-whole : pos (natAbs q) ≡ q
-  pub q-least : qLeast ≤ natAbs q
-  pub q-most : natAbs q ≤ qMost
-  pub m-whole : pos (natAbs m) ≡ m
-  pub m-least : mLeast ≤ natAbs m
-  pub m-most : natAbs m ≤ mMost
-  pub power : natAbs q ^ natAbs m ≤ powerMost
+use Rattle.refusals.specs.Settings.{goodSettings, Allowed}
+use Rattle.refusals.specs.Steps.{rising, goodSteps, AllowedStep, AllowedSteps}
 
 pub settings-allowed : (q m : ℤ) → goodSettings q m ≡ true → Allowed q m
 unfolding goodSettings
@@ -39,17 +29,6 @@ settings-allowed q m e =
 -- a power of numbers within bounds is at most the power of the bounds
 pub power-most : (q m a b : ℕ) → 0 < a → q ≤ a → m ≤ b → q ^ m ≤ a ^ b
 power-most q m a b p h k = let x : q ^ m ≤ a ^ m = pow-le-pow-left h m in let y : a ^ m ≤ a ^ b = pow-le-pow-right p k in omega arith
-
--- a step within its limits
-pub record AllowedStep (s : ℤ) : Type 0 where
-  pub least : pos 1 ≤ℤ s
-  pub most : natAbs s ≤ stepMost
-
--- step lists within their rule
-pub record AllowedSteps (l : List ℤ) : Type 0 where
-  pub some : 1 ≤ length l
-  pub few : length l ≤ stepsMost
-  pub each : (i : ℕ) → i < length l → AllowedStep («at» l i)
 
 -- a list that rises from a number not below 0 has steps within their limits
 steps-each : (last : ℤ) (l : List ℤ) → pos 0 ≤ℤ last → rising last l ≡ true → (i : ℕ) → i < length l → AllowedStep («at» l i)

@@ -10,7 +10,7 @@ use mir.Facts.{toZ-ofZ}
 use Rattle.refusals.specs.declared.Verdict.{Verdict}
 use Rattle.refusals.specs.declared.Verdict.the-variants.{Accepted}
 use Rattle.records.specs.Eight.Codes.{Coder}
-use Rattle.records.specs.Code.{code8}
+use Rattle.layers.specs.Code.{code8}
 use Rattle.encoding.specs.Encode.{checkFits}
 use Rattle.reports.specs.Laws.Report.{Given, given-taken, report-refused, report-last}
 use Rattle.reports.specs.Report.{checkGiven, blockReport, reported, report}

@@ -19,7 +19,7 @@ use Rattle.layers.specs.E8.{e8, nearest, decode8}
 use Rattle.refusals.specs.declared.Verdict.{Verdict}
 use Rattle.refusals.specs.declared.Verdict.the-variants.{Accepted}
 use Rattle.records.specs.Eight.Codes.{stepOf, wholePoint}
-use Rattle.records.specs.Code.{code8}
+use Rattle.layers.specs.Code.{code8}
 use Rattle.encoding.specs.Laws.Encode.{fits-next, fits-none}
 use Rattle.records.specs.Eight.Asked.{used-steps}
 use Rattle.reports.specs.Laws.Report.{block-code, block-reportable}

@@ -9,8 +9,8 @@ use lib.ListN.{length, getD}
 use mir.Syntax.{w32, w64}
 use mir.Val.{SFits, toZ}
 use mir.Facts.{toZ-ofZ}
-use Rattle.integers.specs.Laws.Loops.{Filled, filled-more, filled-all, range, range-at}
-use Rattle.integers.specs.Vectors.{«at»}
+use Rattle.integers.specs.Laws.Loops.{Filled, filled-more, filled-all, range-at}
+use Rattle.integers.specs.Vectors.{«at», range}
 use Rattle.readings.specs.declared.Reading.{Reading}
 use Rattle.readings.specs.Report.{reportReading}
 use Rattle.reports.proofs.report_readings.Statement.{statement}

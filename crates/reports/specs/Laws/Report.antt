@@ -34,7 +34,7 @@ use Rattle.refusals.specs.Settings.{checkSettings}
 use Rattle.refusals.specs.Steps.{checkSteps}
 use Rattle.refusals.specs.Verdicts.{unless, firstRefusal}
 use Rattle.records.specs.Eight.Codes.{Coder, stepOf, wholePoint}
-use Rattle.records.specs.Code.{code8}
+use Rattle.layers.specs.Code.{code8}
 use Rattle.encoding.specs.Encode.{checkFits}
 use Rattle.records.specs.Eight.Asked.{CoderTaken, coder-taken, coder-positive, steps-positive}
 use Rattle.encoding.specs.Laws.Encode.{fits-none}

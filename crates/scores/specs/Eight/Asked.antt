@@ -3,12 +3,12 @@ use mathlib.Core.List.{List, []}
 use Prim.Native.Nat.{ℕ, _<_}
 use lib.IntN.{ℤ}
 use lib.ListN.{getD}
-use Rattle.records.specs.Code.{code8}
+use Rattle.layers.specs.Code.{code8}
 use Rattle.records.specs.Eight.Asked.{RecordTaken}
 use Rattle.records.specs.Eight.Codes.{IsBlock, blockSize, blocksIn, codeBlocks}
 use Rattle.records.specs.Eight.Hours.{Sound}
 use Rattle.records.specs.Eight.Vectors.{Hour, fvecsHour}
-use Rattle.records.specs.Laws.Frames.{Framed}
+use Rattle.records.specs.Frames.{Framed}
 use Rattle.refusals.specs.declared.settings.Settings.{Settings}
 use Rattle.refusals.specs.declared.Verdict.the-variants.{Accepted}
 use Rattle.refusals.specs.Limits.{blocksMost}

@@ -3,7 +3,7 @@ use mathlib.Core.List.{List, [], _∷_}
 use Prim.Native.Nat.{ℕ}
 use lib.IntN.{ℤ, natAbs}
 use lib.ListN.{length}
-use Rattle.records.specs.Code.{eightOf}
+use Rattle.layers.specs.Code.{eightOf}
 use Rattle.records.specs.Eight.Codes.{blocksIn}
 use Rattle.refusals.specs.declared.settings.Settings.{Settings}
 use Rattle.refusals.specs.declared.Verdict.{Verdict}

@@ -3,7 +3,7 @@ use mathlib.Core.List.{List}
 use Prim.Native.Nat.{ℕ, _/_}
 use lib.IntN.{ℤ, pos, natAbs}
 use lib.ListN.{length}
-use Rattle.records.specs.Code.{eightOf}
+use Rattle.layers.specs.Code.{eightOf}
 use Rattle.records.specs.Eight.Hours.{Sound}
 use Rattle.records.specs.Eight.Vectors.{Hour, unitsTaken, blocksOf}
 use Rattle.refusals.specs.declared.settings.Settings.{Settings}

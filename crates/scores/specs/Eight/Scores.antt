@@ -2,7 +2,7 @@
 use mathlib.Core.List.{List}
 use Prim.Native.Nat.{ℕ}
 use lib.IntN.{ℤ}
-use Rattle.records.specs.Code.{code8, eightOf}
+use Rattle.layers.specs.Code.{code8, eightOf}
 use Rattle.records.specs.Vectors.{Hour}
 use Rattle.refusals.specs.declared.Answer.{Answer}
 use Rattle.refusals.specs.declared.settings.Settings.{Settings}

@@ -6,11 +6,11 @@ use Prim.Native.Nat.{ℕ, _<_}
 use native.Mathlib.Omega.{arith}
 use lib.IntN.{ℤ}
 use lib.ListN.{length, getD, drop}
-use Rattle.records.specs.Code.{Code}
-use Rattle.records.specs.Codes.{IsBlock, blockSize, blocksIn, codeBlocks, checkFrame, checkBlocks}
-use Rattle.records.specs.Frames.{wholeBlocks, goodRecord}
-use Rattle.records.specs.Laws.Asked.{CoderTaken, coder-taken, RecordTaken, record-taken}
-use Rattle.records.specs.Laws.Frames.{Framed, record-framed}
+use Rattle.layers.specs.Code.{Code}
+use Rattle.records.specs.Codes.{IsBlock, blockSize, blocksIn, codeBlocks, checkFrame, checkBlocks, CoderTaken, RecordTaken}
+use Rattle.records.specs.Frames.{wholeBlocks, goodRecord, Framed}
+use Rattle.records.specs.Laws.Asked.{coder-taken, record-taken}
+use Rattle.records.specs.Laws.Frames.{record-framed}
 use Rattle.records.specs.Laws.Hours.{Sound, units-small, taken-all}
 use Rattle.records.specs.Laws.Parts.{cut-at}
 use Rattle.records.specs.Vectors.{Hour, fvecsHour, checkReadings, unitsTaken, UnitsTaken}

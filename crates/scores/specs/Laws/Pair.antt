@@ -4,9 +4,9 @@ use mathlib.Core.List.{List, [], _∷_}
 use Prim.Native.Nat.{ℕ}
 use lib.IntN.{ℤ}
 use lib.ListN.{length}
-use Rattle.records.specs.Code.{Code}
-use Rattle.records.specs.Codes.{blocksIn}
-use Rattle.records.specs.Laws.Asked.{CoderTaken, coder-taken, RecordTaken}
+use Rattle.layers.specs.Code.{Code}
+use Rattle.records.specs.Codes.{blocksIn, CoderTaken, RecordTaken}
+use Rattle.records.specs.Laws.Asked.{coder-taken}
 use Rattle.refusals.specs.declared.settings.Settings.{Settings}
 use Rattle.refusals.specs.declared.Verdict.{Verdict}
 use Rattle.refusals.specs.declared.Verdict.the-variants.{Accepted}

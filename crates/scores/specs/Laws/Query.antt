@@ -4,8 +4,8 @@ use mathlib.Core.List.{List, [], _∷_}
 use Prim.Native.Nat.{ℕ, _/_}
 use lib.IntN.{ℤ, pos}
 use lib.ListN.{length}
-use Rattle.records.specs.Code.{Code, sizeOf}
-use Rattle.records.specs.Laws.Asked.{RecordTaken}
+use Rattle.layers.specs.Code.{Code, sizeOf}
+use Rattle.records.specs.Codes.{RecordTaken}
 use Rattle.records.specs.Laws.Hours.{Sound}
 use Rattle.records.specs.Vectors.{Hour, checkReadings, unitsTaken, blocksOf}
 use Rattle.refusals.specs.declared.settings.Settings.{Settings}

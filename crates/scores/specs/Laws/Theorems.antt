@@ -17,9 +17,10 @@ use Rattle.layers.specs.Digits.{joined}
 use Rattle.readings.specs.declared.Measured.{Measured}
 use Rattle.readings.specs.declared.Measured.the-variants as measured
 use Rattle.readings.specs.Words.{wordAt, measureAt}
-use Rattle.records.specs.Code.{Code, sizeOf, eightOf}
+use Rattle.layers.specs.Code.{Code, sizeOf, eightOf}
 use Rattle.records.specs.Codes.{IsBlock, blockSize, blocksIn, codeBlocks, stepOf, wholePoint}
-use Rattle.records.specs.Laws.Frames.{Whole, blocks-whole}
+use Rattle.records.specs.Laws.Frames.{blocks-whole}
+use Rattle.records.specs.Frames.{Whole}
 use Rattle.records.specs.Laws.Hours.{Sound, fvecs-count, fvecs-reading, word-missing}
 use Rattle.records.specs.Laws.Parts.{cut-long, cut-at}
 use Rattle.records.specs.Laws.Vectors.{AllUnits, first-missing, first-beyond}

@@ -11,8 +11,8 @@ use lib.Dec.{eqb}
 use lib.IntN.{ℤ, pos, natAbs, _+ℤ_}
 use lib.ListN.{length, getD, take, drop}
 use lib.Seq.{getD-take, getD-drop}
-use Rattle.integers.specs.Laws.Loops.{range, range-at}
-use Rattle.integers.specs.Vectors.{«at», dot}
+use Rattle.integers.specs.Laws.Loops.{range-at}
+use Rattle.integers.specs.Vectors.{«at», dot, range}
 use Rattle.columns.specs.Narrow.{leftBy}
 use Rattle.layers.specs.Laws.Bases.{base-two}
 use Rattle.rounding.specs.Rounding.{lowered}

@@ -13,10 +13,10 @@ use lib.ListN.{length, getD, take, drop, set, length-map, length-append, length-
 use lib.Seq.{getD-set-same, getD-set-other, take-all}
 use lib.Signed.{ltZ}
 use Rattle.integers.specs.Laws.Difference.{ints, byD, byD₂, byD₃, byD₄}
-use Rattle.integers.specs.Laws.Loops.{range, range-long, by-entries}
+use Rattle.integers.specs.Laws.Loops.{range-long, by-entries}
 use Rattle.integers.specs.Laws.Sizes.{abs-mul-le}
 use Rattle.integers.specs.Laws.Sums.{at-zeros, length-zeros, dot-bound, sized-map}
-use Rattle.integers.specs.Vectors.{«at», zeros, dot, Bounded, Sized}
+use Rattle.integers.specs.Vectors.{«at», zeros, dot, Bounded, Sized, range}
 use Rattle.columns.specs.Narrow.{leftBy}
 use Rattle.rounding.specs.Laws.Lowered.{lowered-small}
 use Rattle.rounding.specs.Rounding.{sign, lowered}

@@ -13,9 +13,9 @@ use lib.Seq.{drop-drop}
 use Rattle.layers.specs.Digits.{cut}
 use Rattle.readings.specs.Words.{wordAt}
 use Rattle.records.specs.Eight.Codes.{blockSize, blocksIn, codeBlocks, codeLength, checkBlocks}
-use Rattle.records.specs.Frames.{wholeBlocks, goodRecord}
+use Rattle.records.specs.Frames.{wholeBlocks, goodRecord, Framed}
 use Rattle.records.specs.Eight.Asked.{RecordTaken, blocks-accepted}
-use Rattle.records.specs.Laws.Frames.{Framed, record-framed, whole-blocks, frame-good}
+use Rattle.records.specs.Laws.Frames.{record-framed, whole-blocks, frame-good}
 use Rattle.records.specs.Laws.Parts.{cut-long, cut-at}
 use Rattle.refusals.specs.declared.Refusal.{Refusal}
 use Rattle.refusals.specs.declared.Refusal.the-variants.{Record, EmptyStore}

@@ -9,8 +9,8 @@ use lib.IntN.{ℤ, pos}
 use lib.ListN.{length, take, drop, length-append, length-map, List·getD-append}
 use lib.Pow.{pow-add}
 use lib.Seq.{getD-take, getD-drop, drop-drop}
-use Rattle.integers.specs.Laws.Loops.{range, range-long, range-at}
-use Rattle.integers.specs.Vectors.{«at», dot}
+use Rattle.integers.specs.Laws.Loops.{range-long, range-at}
+use Rattle.integers.specs.Vectors.{«at», dot, range}
 use Rattle.layers.specs.Digits.{IsLayer, joined, cut, entryOf}
 use Rattle.layers.specs.E8.{layerPoint8}
 use Rattle.layers.specs.Laws.Entries.{entryOf-less, pow-four, digitsOf-entryOf, row-at, rows-long}

@@ -6,8 +6,8 @@ use borrow.Author.Tests.{leb-true}
 use lib.IntN.{ℤ, pos, natAbs}
 use lib.ListN.{length}
 use Rattle.coding.specs.Laws.Asked.{checked-allowed}
-use Rattle.records.specs.Frames.{wholeBlocks}
-use Rattle.records.specs.Laws.Frames.{Framed, record-framed}
+use Rattle.records.specs.Frames.{wholeBlocks, Framed}
+use Rattle.records.specs.Laws.Frames.{record-framed}
 use Rattle.records.specs.Eight.Hours.{Sound, units-small, taken-all}
 use Rattle.records.specs.Eight.Vectors.{Hour, fvecsHour, checkReadings, unitsTaken, blocksOf, UnitsTaken}
 use Rattle.refusals.specs.declared.settings.Settings.{Settings}
@@ -16,10 +16,9 @@ use Rattle.refusals.specs.declared.Refusal.the-variants.{Table, Size, Record}
 use Rattle.refusals.specs.declared.Verdict.{Verdict}
 use Rattle.refusals.specs.declared.Verdict.the-variants.{Accepted, Refused}
 use Rattle.refusals.specs.Answers.{valued, written}
-use Rattle.refusals.specs.Laws.Allowed.{Allowed}
 use Rattle.refusals.specs.Laws.Verdicts.{unless-accepted, first-accepted, first-append, first-group}
 use Rattle.refusals.specs.Limits.{blocksMost}
-use Rattle.refusals.specs.Settings.{checkSettings}
+use Rattle.refusals.specs.Settings.{checkSettings, Allowed}
 use Rattle.refusals.specs.Verdicts.{firstRefusal}
 use Rattle.tables.specs.Filling.{checkTable, checkEntries, checkPairTable, lentAsked, queryTableAsked, checkQueryTable, queryFilled, queryTableRoom}
 use Rattle.tables.specs.Tables.{pairMost, queryMost, pairSize, partSize, queryTable}

@@ -7,9 +7,8 @@ use borrow.Author.Tests.{eq-eqb, ne-eqb}
 use lib.IntN.{natAbs}
 use lib.ListN.{length}
 use Rattle.refusals.specs.declared.Verdict.the-variants.{Accepted}
-use Rattle.refusals.specs.Laws.Allowed.{Allowed}
 use Rattle.refusals.specs.Laws.Verdicts.{first-last}
-use Rattle.refusals.specs.Settings.{checkSettings}
+use Rattle.refusals.specs.Settings.{checkSettings, Allowed}
 use Rattle.coding.specs.Answers.{checkBelow, checkDigits}
 use Rattle.coding.specs.Laws.Asked.{checked-allowed}
 use Rattle.coding.proofs.asked.check_digits.Statement.{statement}

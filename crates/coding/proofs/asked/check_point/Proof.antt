@@ -9,9 +9,8 @@ use lib.IntN.{natAbs}
 use lib.ListN.{length}
 use Rattle.integers.specs.Vectors.{small}
 use Rattle.refusals.specs.declared.Verdict.the-variants.{Accepted}
-use Rattle.refusals.specs.Laws.Allowed.{Allowed}
 use Rattle.refusals.specs.Limits.{pointMost}
-use Rattle.refusals.specs.Settings.{checkSettings}
+use Rattle.refusals.specs.Settings.{checkSettings, Allowed}
 use Rattle.lattice.specs.Doubled.{isPoint}
 use Rattle.coding.specs.Answers.{checkPoint}
 use Rattle.coding.specs.Laws.Asked.{checked-allowed}

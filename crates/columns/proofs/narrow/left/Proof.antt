@@ -11,9 +11,9 @@ use lib.ListN.{getD}
 use mir.Syntax.{w16}
 use mir.Val.{SFits, toZ}
 use mir.Facts.{toZ-ofZ}
-use Rattle.integers.specs.Laws.Loops.{Filled, filled-more, filled-all, range, range-at}
+use Rattle.integers.specs.Laws.Loops.{Filled, filled-more, filled-all, range-at}
 use Rattle.integers.specs.Laws.Sizes.{abs-add, abs-sub, abs-mul-le, fits-mag}
-use Rattle.integers.specs.Vectors.{«at»}
+use Rattle.integers.specs.Vectors.{«at», range}
 use Rattle.columns.specs.declared.narrow.Choice.{Choice}
 use Rattle.rounding.specs.Laws.Choice.{sign-small}
 use Rattle.columns.specs.Narrow.{leftAt}

@@ -12,9 +12,9 @@ use mir.Facts.{toZ-ofZ}
 use Rattle.integers.specs.Laws.Loops.{rest-whole}
 use Rattle.layers.specs.Digits.{cut}
 use Rattle.records.specs.Eight.Codes.{Coder, AreBlocks, blockSize, blocksIn, codeBlocks, checkBlocks}
-use Rattle.records.specs.Frames.{goodRecord}
+use Rattle.records.specs.Frames.{goodRecord, Framed}
 use Rattle.records.specs.Eight.Asked.{RecordTaken, frame-holds}
-use Rattle.records.specs.Laws.Frames.{Framed, record-framed}
+use Rattle.records.specs.Laws.Frames.{record-framed}
 use Rattle.refusals.specs.declared.Answer.{Answer}
 use Rattle.refusals.specs.declared.Refusal.the-variants.{Record}
 use Rattle.refusals.specs.declared.Verdict.{Verdict}

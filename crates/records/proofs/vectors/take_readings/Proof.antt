@@ -8,7 +8,7 @@ use borrow.Author.Needs.{needs}
 use lib.ListN.{length, set, length-set}
 use mir.Syntax.{w32}
 use mir.Val.{toZ, ofZ}
-use Rattle.integers.specs.Laws.Loops.{range}
+use Rattle.integers.specs.Vectors.{range}
 use Rattle.readings.specs.declared.Measured.{Measured}
 use Rattle.readings.specs.Words.{wordAt, measureAt}
 use Rattle.records.specs.Vectors.{fvecsReadings, checkReadings, unitsTaken}

@@ -9,9 +9,9 @@ use lib.ListN.{getD}
 use mir.Syntax.{w64}
 use mir.Val.{SFits, toZ}
 use mir.Facts.{toZ-ofZ}
-use Rattle.integers.specs.Laws.Loops.{Filled, filled-more, filled-all, range, range-at}
+use Rattle.integers.specs.Laws.Loops.{Filled, filled-more, filled-all, range-at}
 use Rattle.integers.specs.Laws.Sizes.{abs-mul, abs-mul-le, fits-abs, fits-add, fits-mul}
-use Rattle.integers.specs.Vectors.{«at»}
+use Rattle.integers.specs.Vectors.{«at», range}
 use Rattle.rounding.specs.Laws.Choice.{sign-small}
 use Rattle.rounding.specs.Rounding.{sign}
 use Rattle.rounding.proofs.point.spread.Statement.{statement}

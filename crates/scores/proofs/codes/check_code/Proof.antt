@@ -12,9 +12,9 @@ use Rattle.refusals.specs.Laws.Verdicts.{first-last}
 use Rattle.refusals.specs.Verdicts.{unless, firstRefusal}
 use Rattle.layers.specs.Digits.{cut}
 use Rattle.records.specs.Eight.Codes.{blockSize, blocksIn, codeBlocks, checkBlocks}
-use Rattle.records.specs.Frames.{goodRecord}
+use Rattle.records.specs.Frames.{goodRecord, Framed}
 use Rattle.records.specs.Eight.Asked.{frame-holds}
-use Rattle.records.specs.Laws.Frames.{Framed, record-framed}
+use Rattle.records.specs.Laws.Frames.{record-framed}
 use Rattle.scores.specs.Eight.Scores.{checkCode}
 use Rattle.scores.proofs.codes.check_code.Statement.{statement}
 use Rattle.scores.proofs.codes.check_code.Tie as tie

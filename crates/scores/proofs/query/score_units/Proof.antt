@@ -13,7 +13,8 @@ use Rattle.integers.specs.Laws.Loops.{rest-whole}
 use Rattle.layers.specs.Digits.{cut}
 use Rattle.records.specs.Eight.Codes.{Coder, AreBlocks, blockSize, blocksIn}
 use Rattle.records.specs.Eight.Asked.{RecordTaken}
-use Rattle.records.specs.Laws.Frames.{Whole, blocks-whole}
+use Rattle.records.specs.Laws.Frames.{blocks-whole}
+use Rattle.records.specs.Frames.{Whole}
 use Rattle.refusals.specs.declared.Verdict.{Verdict}
 use Rattle.refusals.specs.declared.Verdict.the-variants.{Accepted}
 use Rattle.refusals.specs.Answers.{valued}

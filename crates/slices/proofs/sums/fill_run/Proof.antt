@@ -7,8 +7,8 @@ use lib.ListN.{length, getD, set}
 use mir.Syntax.{w32}
 use mir.Val.{SFits}
 use mir.Facts.{toZ-ofZ}
-use Rattle.integers.specs.Vectors.{«at»}
-use Rattle.integers.specs.Laws.Loops.{range, range-long, Filled, filled-more, filled-all}
+use Rattle.integers.specs.Vectors.{«at», range}
+use Rattle.integers.specs.Laws.Loops.{range-long, Filled, filled-more, filled-all}
 use Rattle.integers.specs.Laws.Sizes.{fits-mag, abs-add}
 use Rattle.slices.specs.Sums.{runAt}
 use Rattle.slices.specs.Laws.Sums.{range-entry}

@@ -12,8 +12,8 @@ use lib.Signed.{yes-nonNeg}
 use mir.Syntax.{w16, w32}
 use mir.Val.{SFits, toZ, ofZ}
 use mir.Facts.{toZ-ofZ}
-use Rattle.integers.specs.Vectors.{«at», dot, Sized}
-use Rattle.integers.specs.Laws.Loops.{range, range-long, range-at}
+use Rattle.integers.specs.Vectors.{«at», dot, Sized, range}
+use Rattle.integers.specs.Laws.Loops.{range-long, range-at}
 use Rattle.integers.specs.Laws.Signed.{≤ℤ-trans}
 use Rattle.integers.specs.Laws.Sizes.{fits-mag}
 use Rattle.integers.specs.Laws.Sums.{bounded-take, bounded-drop}

@@ -8,8 +8,8 @@ use lib.ListN.{set}
 use mir.Syntax.{w16, w32}
 use mir.Val.{SFits, toZ}
 use mir.Facts.{toZ-ofZ}
-use Rattle.integers.specs.Vectors.{«at»}
-use Rattle.integers.specs.Laws.Loops.{range, range-long, Filled, filled-more, filled-all}
+use Rattle.integers.specs.Vectors.{«at», range}
+use Rattle.integers.specs.Laws.Loops.{range-long, Filled, filled-more, filled-all}
 use Rattle.integers.specs.Laws.Sizes.{fits-mag}
 use Rattle.slices.specs.Sums.{mendAt}
 use Rattle.slices.specs.Laws.Sums.{range-entry, step-small, steps-small, mend-small}

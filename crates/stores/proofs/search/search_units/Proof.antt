@@ -9,7 +9,8 @@ use mir.Syntax.{w64}
 use mir.Val.{SFits, toZ, ofZ}
 use mir.Facts.{toZ-ofZ}
 use Rattle.records.specs.Eight.Codes.{Coder}
-use Rattle.records.specs.Laws.Frames.{Whole, blocks-whole}
+use Rattle.records.specs.Laws.Frames.{blocks-whole}
+use Rattle.records.specs.Frames.{Whole}
 use Rattle.refusals.specs.declared.Verdict.{Verdict}
 use Rattle.refusals.specs.declared.Verdict.the-variants.{Accepted}
 use Rattle.refusals.specs.Limits.{blocksMost}

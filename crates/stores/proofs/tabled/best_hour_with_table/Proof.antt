@@ -7,7 +7,8 @@ use native.Mathlib.Omega.{arith}
 use lib.IntN.{ℤ, natAbs}
 use lib.ListN.{length, take, length-append}
 use lib.Seq.{take-at}
-use Rattle.records.specs.Laws.Frames.{Framed, record-framed}
+use Rattle.records.specs.Laws.Frames.{record-framed}
+use Rattle.records.specs.Frames.{Framed}
 use Rattle.records.specs.Eight.Hours.{fvecs-sound, fvecs-count, taken-all}
 use Rattle.records.specs.Eight.Vectors.{Hour, fvecsHour, checkReadings, unitsTaken}
 use Rattle.refusals.specs.declared.Refusal.the-variants.{Record}

@@ -12,7 +12,8 @@ use Rattle.integers.specs.Vectors.{Sized}
 use Rattle.layers.specs.Digits.{joined, cut}
 use Rattle.layers.specs.Sizes.{Base}
 use Rattle.records.specs.Eight.Codes.{Coder}
-use Rattle.records.specs.Laws.Frames.{Whole, blocks-whole}
+use Rattle.records.specs.Laws.Frames.{blocks-whole}
+use Rattle.records.specs.Frames.{Whole}
 use Rattle.refusals.specs.declared.Verdict.{Verdict}
 use Rattle.refusals.specs.declared.Verdict.the-variants.{Accepted}
 use Rattle.refusals.specs.Answers.{written}

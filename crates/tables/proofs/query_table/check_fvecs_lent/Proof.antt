@@ -7,8 +7,8 @@ use Prim.Native.Nat.{ℕ, _*_, _/_}
 use native.Mathlib.Omega.{arith}
 use lib.IntN.{natAbs}
 use Rattle.readings.specs.Words.{wordAt}
-use Rattle.records.specs.Frames.{goodRecord}
-use Rattle.records.specs.Laws.Frames.{Framed, record-framed}
+use Rattle.records.specs.Frames.{goodRecord, Framed}
+use Rattle.records.specs.Laws.Frames.{record-framed}
 use Rattle.records.specs.Eight.Hours.{fvecs-count}
 use Rattle.records.specs.Eight.Vectors.{fvecsHour}
 use Rattle.refusals.specs.declared.Refusal.the-variants.{Record}

@@ -12,7 +12,7 @@ use mir.Val.{SFits, toZ, ofZ}
 use mir.Facts.{toZ-ofZ}
 use Rattle.coding.specs.Laws.Asked.{allowed-base}
 use Rattle.layers.specs.Sizes.{Base}
-use Rattle.records.specs.Laws.Frames.{Framed}
+use Rattle.records.specs.Frames.{Framed}
 use Rattle.records.specs.Eight.Hours.{fvecs-sound, fvecs-count}
 use Rattle.records.specs.Eight.Vectors.{Hour, fvecsHour, checkReadings, unitsTaken, UnitsTaken}
 use Rattle.refusals.specs.declared.Verdict.{Verdict}

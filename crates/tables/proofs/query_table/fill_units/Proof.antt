@@ -10,7 +10,8 @@ use mir.Syntax.{w64}
 use mir.Val.{SFits}
 use mir.Facts.{toZ-ofZ}
 use Rattle.integers.specs.Vectors.{Sized}
-use Rattle.records.specs.Laws.Frames.{Whole, blocks-whole}
+use Rattle.records.specs.Laws.Frames.{blocks-whole}
+use Rattle.records.specs.Frames.{Whole}
 use Rattle.refusals.specs.declared.Verdict.the-variants.{Accepted}
 use Rattle.refusals.specs.Answers.{valued}
 use Rattle.refusals.specs.Limits.{blocksMost}
