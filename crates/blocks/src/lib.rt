@@ -1,4 +1,6 @@
 // One block of eight readings: what a step makes of it, and the first step of a list that fits (01, Layers and steps).
+#![tactic(auto)]
+
 ghost use Rattle.std.specs.Prelude.{◌≡◌, ◌++◌, ◌+◌, ◌*◌, ◌^◌, ◌<◌, ◌≤◌, pos, nat_abs, length, drop};
 ghost use Rattle.integers.specs.Vectors.{scale_v};
 ghost use Rattle.rounding.specs.Rounding.{Divisor};
@@ -8,7 +10,7 @@ ghost use Rattle.blocks.specs.Trials.{nothing_left, point_at, trial8, fits, firs
 ghost use Rattle.blocks.specs.Limits.{Block, UsedSteps};
 
 // What a step makes of a block: the doubled point nearest to X / s, and what M layers leave over of it.
-#[derive(Drop)]
+#[derive(Clone, Copy)]
 pub struct Trial {
     pub point: [i64; 8],
     pub leftover: [i64; 8],

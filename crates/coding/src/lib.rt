@@ -1,4 +1,6 @@
 // A point of E8 coded and decoded by itself (01, Layers and steps).
+#![tactic(auto)]
+
 pub mod asked;
 pub mod counting;
 

@@ -1,4 +1,6 @@
 // Eight layers side by side, in narrow numbers: row j holds the digit or coordinate j of each.
+#![tactic(auto)]
+
 pub mod narrow;
 
 ghost use Rattle.std.specs.Prelude.{◌≡◌, map, ◌+◌, ◌<◌, ◌≤◌, pos, nat_abs, ◌+ℤ◌, ◌-ℤ◌, ◌*ℤ◌};

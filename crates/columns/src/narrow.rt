@@ -9,7 +9,7 @@ ghost use Rattle.rounding.specs.Pass.{seen, mended, first, lead, chosen};
 ghost use Rattle.rounding.specs.Rounding.{round, left, sign, lowered, key, spot};
 
 // What one pass sees, as in the wide pass: the greatest and the least key, the sum of all keys, that of all roundings, and the squares of what each half leaves.
-#[derive(Drop)]
+#[derive(Clone, Copy)]
 pub struct Scan {
     pub most: u16,
     pub least: u16,
@@ -20,7 +20,7 @@ pub struct Scan {
 }
 
 // How a half is mended: a step at a place, doubled, and what it adds to the cost.
-#[derive(Drop)]
+#[derive(Clone, Copy)]
 struct Mend {
     place: u16,
     step: i16,
@@ -28,7 +28,7 @@ struct Mend {
 }
 
 // The half that is chosen, by its parity, and where and how it is mended.
-#[derive(Drop)]
+#[derive(Clone, Copy)]
 pub struct Choice {
     pub parity: i16,
     pub place: u16,

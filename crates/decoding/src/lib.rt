@@ -1,4 +1,6 @@
 // From codes to readings: a code record decoded into an fvecs record (01, Layers and steps; Bytes).
+#![tactic(auto)]
+
 ghost use Rattle.std.specs.Prelude.{◌≡◌, ◌++◌, map, ◌*◌, ◌≤◌, nat_abs, length, drop};
 ghost use Rattle.layers.specs.Digits.{joined, cut};
 ghost use Rattle.layers.specs.Table.{TableFor};

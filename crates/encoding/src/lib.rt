@@ -1,4 +1,6 @@
 // From readings to codes: an hour as an fvecs record or as whole units, over one core on X (01, Layers and steps; Bytes).
+#![tactic(auto)]
+
 ghost use Rattle.std.specs.Prelude.{◌≡◌, [], ◌∷◌, ◌++◌, ◌+◌, ◌*◌, ◌/◌, ◌^◌, ◌≤◌, leb, pos, nat_abs, length, take, drop};
 ghost use Rattle.integers.specs.Vectors.{Sized};
 ghost use Rattle.layers.specs.Digits.{cut};

@@ -11,7 +11,7 @@ use stores::HourAnswer;
 
 // q and M.
 #[repr(C)]
-#[derive(Drop)]
+#[derive(Clone, Copy)]
 pub struct EkSettings {
     pub q: i32,
     pub m: i32,
@@ -19,7 +19,7 @@ pub struct EkSettings {
 
 // A reading as taken: number 0 and its value, or 4 (missing) or 5 (out of range) and 0.0.
 #[repr(C)]
-#[derive(Drop)]
+#[derive(Clone, Copy)]
 pub struct EkTaken {
     pub number: u64,
     pub value: f32,
@@ -27,7 +27,7 @@ pub struct EkTaken {
 
 // A doubled point: number 0, or a refusal's number and place and zeros.
 #[repr(C)]
-#[derive(Drop)]
+#[derive(Clone, Copy)]
 pub struct EkPoint {
     pub number: u64,
     pub place: u64,
@@ -36,7 +36,7 @@ pub struct EkPoint {
 
 // How many bytes were written, or a score: number 0 and the value, or a refusal's number and place and 0.
 #[repr(C)]
-#[derive(Drop)]
+#[derive(Clone, Copy)]
 pub struct EkAnswer {
     pub number: u64,
     pub place: u64,
@@ -45,7 +45,7 @@ pub struct EkAnswer {
 
 // The best hour: number 0, a stored record's number and its score, or a refusal's number and place and zeros.
 #[repr(C)]
-#[derive(Drop)]
+#[derive(Clone, Copy)]
 pub struct EkHour {
     pub number: u64,
     pub place: u64,
@@ -55,7 +55,7 @@ pub struct EkHour {
 
 // One reading of a report.
 #[repr(C)]
-#[derive(Drop)]
+#[derive(Clone, Copy)]
 pub struct EkReading {
     pub taken: f32,
     pub decoded: f32,
@@ -64,7 +64,7 @@ pub struct EkReading {
 
 // A report: number 0 and eight readings, or a refusal's number and place and +0.0 throughout.
 #[repr(C)]
-#[derive(Drop)]
+#[derive(Clone, Copy)]
 pub struct EkReportAnswer {
     pub number: u64,
     pub place: u64,

@@ -1,4 +1,6 @@
 // Arithmetic that the machine does not have: division by a positive number that rounds down, and powers; tests of ranges.
+#![tactic(auto)]
+
 ghost use Rattle.std.specs.Prelude.{◌≡◌, ◌^◌, ◌<◌, ◌≤◌, min, pos, nat_abs, ◌≤ℤ◌};
 ghost use Rattle.integers.specs.Floor.{floor_div, floor_mod, reciprocal};
 ghost use Rattle.integers.specs.Vectors.{within, small};

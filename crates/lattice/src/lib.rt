@@ -1,4 +1,6 @@
 // E8, held doubled: membership, the basis, the answer that is a point (01, The lattice).
+#![tactic(auto)]
+
 pub mod basis;
 pub mod lent;
 pub mod member;
@@ -13,7 +15,7 @@ use refusals::{Refusal, Verdict};
 pub const POINT_MOST: i32 = 67108864;
 
 // A doubled point, or the refusal and zeros.
-#[derive(Drop)]
+#[derive(Clone, Copy)]
 pub struct PointAnswer {
     pub verdict: Verdict,
     pub point: [i32; 8],

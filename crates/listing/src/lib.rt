@@ -1,4 +1,6 @@
 // The showing program's work: from the text that it reads to the text that it prints (01, The proved blocks).
+#![tactic(auto)]
+
 mod lines;
 
 ghost use Rattle.std.specs.Prelude.{◌≡◌, ◌++◌, ◌^◌, ◌≤◌, nat_abs, length, drop};

@@ -1,4 +1,6 @@
 // The doubled points of blocks of a code record, in narrow numbers: eight side by side, or in lent rows (01, Layers and steps).
+#![tactic(auto)]
+
 ghost use Rattle.std.specs.Prelude.{◌≡◌, ◌++◌, map, ◌+◌, ◌*◌, ◌<◌, ◌≤◌, pos, nat_abs, length, take, drop};
 ghost use Rattle.integers.specs.Vectors.{add_v, scale_v, range};
 ghost use Rattle.columns.specs.Columns.{column, Square8};

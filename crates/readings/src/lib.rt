@@ -1,4 +1,6 @@
 // Readings: what is a number, what is missing or out of range, and what single precision holds exactly.
+#![tactic(auto)]
+
 ghost use Rattle.std.specs.Prelude.{◌≡◌};
 ghost use Rattle.readings.specs.Taking.{measure_units, measure_bits, InRange, taken_of, take_units, take_bits};
 ghost use Rattle.readings.specs.Report.{Reportable, report_reading};
@@ -8,7 +10,7 @@ mod pattern;
 pub mod words;
 
 // The answer of taking one reading: its value, or why there is none.
-#[derive(Drop)]
+#[derive(Clone, Copy)]
 pub enum Taken {
     Value(f32),
     Missing,
@@ -16,7 +18,7 @@ pub enum Taken {
 }
 
 // The same answer with the whole number X of units of 1/1024 in place of the value.
-#[derive(Drop)]
+#[derive(Clone, Copy)]
 pub enum Measured {
     Units(i32),
     Missing,
@@ -78,7 +80,7 @@ pub fn take_bits(bits: u32) -> Taken
 }
 
 // One reading of a report, in single precision: as taken X/1024, as decoded s·e/2048, and taken less decoded.
-#[derive(Drop)]
+#[derive(Clone, Copy)]
 pub struct Reading {
     pub taken: f32,
     pub decoded: f32,

@@ -1,4 +1,6 @@
 // When the unit says no: the refusals of document 01, and what settings and step lists must be.
+#![tactic(auto)]
+
 pub mod settings;
 pub mod steps;
 
@@ -8,7 +10,7 @@ ghost use Rattle.refusals.specs.Verdicts.{number_of, place_of};
 ghost use Rattle.refusals.specs.declared.Verdict.TheVariants.{Refused};
 
 // A name for each row of 01's table. What it carries is its place.
-#[derive(Drop)]
+#[derive(Clone, Copy)]
 pub enum Refusal {
     // 1: q, M or q^M outside limits.
     Settings,
@@ -35,7 +37,7 @@ pub enum Refusal {
 }
 
 // What a check answers.
-#[derive(Drop)]
+#[derive(Clone, Copy)]
 pub enum Verdict {
     Accepted,
     Refused(Refusal),
@@ -86,7 +88,7 @@ pub fn place_of(v: Verdict) -> usize
 }
 
 // What an operation answers whose value is one number: it is 0 where the operation is refused.
-#[derive(Drop)]
+#[derive(Clone, Copy)]
 pub struct Answer {
     pub verdict: Verdict,
     pub value: i64,

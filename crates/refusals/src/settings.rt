@@ -15,7 +15,7 @@ pub const M_MOST: i32 = 4;
 pub const POWER_MOST: u64 = 4096;
 
 // q and M, in a type that can hold a wrong value, so that a wrong one is refused and never wrapped.
-#[derive(Drop)]
+#[derive(Clone, Copy)]
 pub struct Settings {
     pub q: i32,
     pub m: i32,

@@ -1,4 +1,6 @@
 // The report on one block: each of its eight readings as taken, as decoded, and the difference (01, Layers and steps).
+#![tactic(auto)]
+
 ghost use Rattle.std.specs.Prelude.{◌≡◌, [], ◌∷◌, nat_abs};
 ghost use Rattle.blocks.specs.Limits.{Block};
 ghost use Rattle.refusals.specs.declared.Verdict.TheVariants.{Refused};
@@ -14,7 +16,7 @@ use refusals::settings::Settings;
 use refusals::{Refusal, Verdict, settings};
 
 // Eight readings of a report, or the refusal and zeros.
-#[derive(Drop)]
+#[derive(Clone, Copy)]
 pub struct ReportAnswer {
     pub verdict: Verdict,
     pub readings: [Reading; 8],

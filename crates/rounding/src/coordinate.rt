@@ -3,7 +3,7 @@ ghost use Rattle.std.specs.Prelude.{◌≡◌, cond, ◌^◌, ◌≤◌, ◌<◌
 ghost use Rattle.rounding.specs.Rounding.{Divisor, reciprocal, rounded, sign, lowered, key, spot};
 
 // A coordinate rounded, and what that leaves of it.
-#[derive(Drop)]
+#[derive(Clone, Copy)]
 pub(crate) struct Rounded {
     pub whole: i64,
     pub rest: i64,

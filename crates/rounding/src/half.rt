@@ -7,7 +7,7 @@ ghost use Rattle.rounding.specs.Pass.{Light, seen, scanned, mended};
 use crate::coordinate;
 
 // What one pass sees: the greatest and the least key, the sum of all keys, that of all roundings, and the squares of what the even half leaves and of what the odd one does.
-#[derive(Drop)]
+#[derive(Clone, Copy)]
 pub struct Scan {
     pub most: usize,
     pub least: usize,
@@ -18,7 +18,7 @@ pub struct Scan {
 }
 
 // How a half is mended: a step at a place, doubled as the point is, 0 where nothing is to be mended; and what it adds to the cost.
-#[derive(Drop)]
+#[derive(Clone, Copy)]
 pub struct Mend {
     pub place: usize,
     pub step: i64,

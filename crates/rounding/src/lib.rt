@@ -1,4 +1,6 @@
 // The nearest point of E8 to d / s (01, The lattice).
+#![tactic(auto)]
+
 mod coordinate;
 pub mod half;
 pub mod point;

@@ -11,7 +11,7 @@ use crate::{coordinate, half};
 use lattice::member;
 
 // The half that is chosen, by its parity, and its mend.
-#[derive(Drop)]
+#[derive(Clone, Copy)]
 pub struct Choice {
     pub parity: i64,
     pub mend: Mend,

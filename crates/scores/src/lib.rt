@@ -1,4 +1,6 @@
 // Scores of code records (01, Scores).
+#![tactic(auto)]
+
 pub mod codes;
 pub mod hours;
 pub mod inner;

@@ -1,4 +1,6 @@
 // The best hour: the greatest query score over the records of a store (01, Scores).
+#![tactic(auto)]
+
 pub mod checks;
 pub mod search;
 pub mod tabled;
@@ -10,14 +12,14 @@ ghost use Rattle.stores.specs.Stores.{better, best_of, found};
 use refusals::{Refusal, Verdict};
 
 // The best record so far: its number from 0, and its score in halves of 1/1024 squared.
-#[derive(Drop)]
+#[derive(Clone, Copy)]
 pub struct Best {
     pub hour: usize,
     pub score: i64,
 }
 
 // What a search answers: hour and score are 0 where it is refused.
-#[derive(Drop)]
+#[derive(Clone, Copy)]
 pub struct HourAnswer {
     pub verdict: Verdict,
     pub hour: usize,

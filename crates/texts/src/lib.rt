@@ -1,4 +1,6 @@
 // Reading what is asked for: words as numbers, lines of them, and the three lines of a text.
+#![tactic(auto)]
+
 ghost use Rattle.std.specs.Prelude.{◌≡◌, true, false, ◌+◌, ◌*◌, ◌-◌, ◌≤◌, min, length, drop};
 ghost use Rattle.std.proofs.lemmas.List.Edits.{sets};
 ghost use Rattle.texts.specs.Answers.{piece_length, cap, size_of, signed, number_told, counted, pair_told, LinesFound, asked_told, text_told};
@@ -15,42 +17,42 @@ pub const NUMBERS_MOST: usize = 2048;
 const CAP: u64 = 4294967296;
 
 // The value of digits, up to the cap; or a byte is no digit, or there is none.
-#[derive(Drop)]
+#[derive(Clone, Copy)]
 pub enum Size {
     Of(u64),
     NoDigits,
 }
 
 // A word as a number within signed 32 bits.
-#[derive(Drop)]
+#[derive(Clone, Copy)]
 pub enum Number {
     Whole(i32),
     NotOne,
 }
 
 // How many numbers a line has; or it holds something else.
-#[derive(Drop)]
+#[derive(Clone, Copy)]
 pub enum Count {
     Numbers(usize),
     Other,
 }
 
 // q and M; or a line that is not two numbers.
-#[derive(Drop)]
+#[derive(Clone, Copy)]
 pub enum Pair {
     Two(Settings),
     Other,
 }
 
 // Where each of three lines ends; or a text of another kind.
-#[derive(Drop)]
+#[derive(Clone, Copy)]
 pub enum Lines {
     Three(usize, usize, usize),
     Other,
 }
 
 // q and M, and how many steps there are; or a malformed text.
-#[derive(Drop)]
+#[derive(Clone, Copy)]
 pub enum Asked {
     Block(Settings, usize),
     Malformed,

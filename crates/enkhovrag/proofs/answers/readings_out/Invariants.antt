@@ -1,0 +1,14 @@
+-- `readings_out` copies reading by reading: after i turns the first i entries are right.
+use mathlib.Core.Path.{refl}
+use Prim.Native.Nat.{◌-◌}
+use native.Mathlib.Omega.{arith}
+use borrow.Author.Rules.{rules}
+use Rattle.integers.specs.Laws.Loops.{Filled, filled_more, filled-all}
+use Rattle.enkhovrag.specs.Answers.{reading_out}
+use Rattle.enkhovrag.proofs.answers.readings_out.Given as goal
+
+abbrev pub invariant-loop-i : goal.invariant-loop-i
+invariant-loop-i l = Filled reading_out 8 l.given l.i l.out
+
+abbrev pub decreases-loop-i : goal.decreases-loop-i
+decreases-loop-i l = 8 - l.i

@@ -1,0 +1,18 @@
+-- `row` copies its eight entries: after k turns the first k are right.
+use mathlib.Core.Path.{refl, ◌∙◌}
+use mathlib.Core.List.{map-id}
+use Prim.Native.Nat.{◌-◌}
+use native.Mathlib.Omega.{arith}
+use lib.IntN.{ℤ, pos}
+use lib.ListN.{get_or}
+use mir.Syntax.{w8, w16}
+use mir.Val.{SFits}
+use mir.Facts.{to_z-of_z, sfits_widen}
+use Rattle.integers.specs.Laws.Loops.{Filled, filled_more, filled-all}
+use Rattle.layers.proofs.lookup.row.Given as goal
+
+abbrev pub invariant-loop-k : goal.invariant-loop-k
+invariant-loop-k l = Filled (λ (z : ℤ). z) 8 l.t l.k l.r
+
+abbrev pub decreases-loop-k : goal.decreases-loop-k
+decreases-loop-k l = 8 - l.k

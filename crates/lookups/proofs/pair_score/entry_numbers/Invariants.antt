@@ -1,0 +1,16 @@
+-- `entry_numbers` goes up: after i turns the numbers of the first i layers stand in front.
+use mathlib.Core.Path.{◌≡◌, refl, sym, ◌∙◌, ap, subst}
+use mathlib.Core.List.{List, map}
+use Prim.Native.Nat.{ℕ, ◌+◌, ◌*◌, ◌-◌, ◌≤◌}
+use native.Mathlib.Omega.{arith}
+use lib.ListN.{length, take, drop, set, length-set}
+use Rattle.layers.specs.Digits.{IsLayer, cut, entry_of}
+use Rattle.layers.specs.Laws.Loops.{code-layer}
+use Rattle.lookups.specs.Laws.Rows.{entries-more}
+use Rattle.lookups.proofs.pair_score.entry_numbers.Given as goal
+
+abbrev pub invariant-loop-i : goal.invariant-loop-i
+invariant-loop-i l = (l.i ≤ l.m) × (length l.numbers ≡ 4) × (take l.i l.numbers ≡ map (entry_of 2) (cut 8 l.i l.ds))
+
+abbrev pub decreases-loop-i : goal.decreases-loop-i
+decreases-loop-i l = l.m - l.i

@@ -1,0 +1,19 @@
+-- `column` takes the entry t of each row: after j turns the first j are right.
+use mathlib.Core.Path.{refl}
+use mathlib.Core.List.{List, []}
+use Prim.Native.Nat.{ℕ, ◌-◌}
+use native.Mathlib.Omega.{arith}
+use lib.IntN.{ℤ}
+use lib.ListN.{get_or}
+use mir.Syntax.{w16}
+use mir.Val.{SFits}
+use mir.Facts.{to_z-of_z}
+use Rattle.integers.specs.Laws.Loops.{Filled, filled_more, filled-all}
+use Rattle.integers.specs.Vectors.{«at»}
+use Rattle.points.proofs.column.Given as goal
+
+abbrev pub invariant-loop-j : goal.invariant-loop-j
+invariant-loop-j l = Filled (entry l.t) 8 l.e l.j l.r
+
+abbrev pub decreases-loop-j : goal.decreases-loop-j
+decreases-loop-j l = 8 - l.j

@@ -1,0 +1,16 @@
+-- `gathered` puts block after block: after b turns the first b columns hold the layer of their blocks.
+use mathlib.Core.Path.{◌≡◌, ap, subst}
+use mathlib.Core.List.{List}
+use Prim.Native.Nat.{ℕ, ◌+◌, ◌*◌, ◌-◌, ◌<◌, ◌≤◌}
+use native.Mathlib.Omega.{arith}
+use lib.ListN.{length, take, drop}
+use Rattle.records.specs.Eight.Codes.{block_size}
+use Rattle.points.specs.Laws.Lanes.{Laid, layer_at, laid_none, laid_more, laid-gathered}
+use Rattle.records.specs.Laws.Parts.{part-ends}
+use Rattle.points.proofs.gathered.Given as goal
+
+abbrev pub invariant-loop-b : goal.invariant-loop-b
+invariant-loop-b l = (l.b ≤ l.n) × Laid (layer l.body l.m l.i) l.b l.c
+
+abbrev pub decreases-loop-b : goal.decreases-loop-b
+decreases-loop-b l = l.n - l.b

@@ -1,0 +1,15 @@
+-- `put_layer` goes down the rows: after j turns the first j have their digit.
+use mathlib.Core.Path.{◌≡◌, sym, ◌∙◌}
+use mathlib.Core.List.{List}
+use Prim.Native.Nat.{ℕ, ◌+◌, ◌-◌, ◌≤◌}
+use native.Mathlib.Omega.{arith}
+use lib.ListN.{length, get_or, take, drop, length-take, length-drop}
+use lib.Seq.{get_or-take, get_or-drop}
+use Rattle.points.specs.Laws.Lanes.{Putting, putting-none, putting-more, putting-all}
+use Rattle.points.proofs.put_layer.Given as goal
+
+abbrev pub invariant-loop-j : goal.invariant-loop-j
+invariant-loop-j l = (l.j ≤ 8) × Putting l.t (part l.body l.a) l.initial.c l.j l.c
+
+abbrev pub decreases-loop-j : goal.decreases-loop-j
+decreases-loop-j l = 8 - l.j

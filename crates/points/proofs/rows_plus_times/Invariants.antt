@@ -1,0 +1,19 @@
+-- `rows_plus_times` goes row by row: after j turns the first j are right.
+use mathlib.Core.Path.{◌≡◌, refl, ◌∙◌}
+use mathlib.Core.List.{List, []}
+use Prim.Native.Nat.{ℕ, ◌+◌, ◌-◌, ◌<◌, ◌≤◌}
+use native.Mathlib.Omega.{arith}
+use lib.IntN.{ℤ}
+use lib.ListN.{length, get_or, set, length-set}
+use mir.Syntax.{w16}
+use mir.Val.{to_z}
+use mir.Facts.{to_z-of_z}
+use Rattle.integers.specs.Vectors.{add_v, scale_v}
+use Rattle.points.specs.Laws.Lanes.{each_more}
+use Rattle.points.proofs.rows_plus_times.Given as goal
+
+abbrev pub invariant-loop-j : goal.invariant-loop-j
+invariant-loop-j l = (l.j ≤ 8) × (length l.r ≡ 8) × ((t : ℕ) → t < l.j → get_or l.r t [] ≡ sum l.l.q l.l l.e t)
+
+abbrev pub decreases-loop-j : goal.decreases-loop-j
+decreases-loop-j l = 8 - l.j

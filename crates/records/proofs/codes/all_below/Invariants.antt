@@ -1,0 +1,26 @@
+-- `all_below` counts faults and raises eight numbers, block by block and layer by layer: at the end no digit is past the greatest of them.
+use mathlib.Core.Path.{◌≡◌, refl, sym, subst}
+use mathlib.Core.Bool.{false≢true}
+use mathlib.Core.List.{List}
+use Prim.Native.Nat.{ℕ, suc, ◌+◌, ◌*◌, ◌-◌, ◌≤◌}
+use native.Mathlib.Omega.{arith}
+use borrow.Author.Rules.{rules}
+use borrow.Author.Tests.{ltb-true}
+use lib.ListN.{length}
+use Rattle.layers.specs.Laws.Rows.{below_more}
+use Rattle.records.specs.Codes.{block_bytes}
+use Rattle.records.specs.Laws.Glance.{Raising, Glanced, raising-none, raising-more, glanced-none, glanced-more, glanced-all}
+use Rattle.records.specs.Laws.Parts.{part-ends}
+use Rattle.records.proofs.codes.all_below.Given as goal
+
+abbrev pub invariant-loop-j : goal.invariant-loop-j
+invariant-loop-j l = Raising l.body (l.at + 1) l.initial.top l.j l.top
+
+abbrev pub decreases-loop-j : goal.decreases-loop-j
+decreases-loop-j l = l.m - l.j
+
+abbrev pub invariant-loop-i : goal.invariant-loop-i
+invariant-loop-i l = Glanced l.steps l.n l.m l.body l.i l.faults l.top
+
+abbrev pub decreases-loop-i : goal.decreases-loop-i
+decreases-loop-i l = l.k - l.i

@@ -1,0 +1,13 @@
+-- `raised` fills its eight entries: after i turns the first i are below neither number of theirs.
+use mathlib.Core.Path.{refl}
+use Prim.Native.Nat.{◌-◌}
+use native.Mathlib.Omega.{arith}
+use Rattle.records.specs.Codes.{Raised}
+use Rattle.records.specs.Laws.Glance.{raised-more}
+use Rattle.records.proofs.codes.raised.Given as goal
+
+abbrev pub invariant-loop-i : goal.invariant-loop-i
+invariant-loop-i l = Raised l.top l.ds l.at l.i l.r
+
+abbrev pub decreases-loop-i : goal.decreases-loop-i
+decreases-loop-i l = 8 - l.i

@@ -1,0 +1,36 @@
+-- `points_inner` shifts the sum right by two places, which divides by 4 and rounds down.
+use mathlib.Core.Path.{◌∙◌, ap}
+use native.Mathlib.Omega.{arith}
+use lib.IntN.{ℤ}
+use lib.Signed.{shr_z, mag_shr}
+use mir.Syntax.{w32, w64}
+use mir.Val.{SFits}
+use mir.Facts.{to_z-of_z}
+use Rattle.integers.specs.Floor.{floor_div}
+use Rattle.integers.specs.Laws.Floors.{floor_div-shr}
+use Rattle.scores.specs.Scores.{inner}
+use Rattle.scores.proofs.inner.points_inner.Goals as goal
+use Rattle.scores.proofs.inner.points_inner.Goals.{After-points_dot}
+
+module _ (c : After-points_dot) where
+  abbrev z : ℤ
+  z = c.points_dot.result
+
+  fz : SFits w32 z
+  fz = record { sfits = c.points_dot.type_inv }
+
+  fq : SFits w32 (shr_z z 4)
+  fq = record { sfits = omega (arith, mag_shr z 4, fz.sfits) }
+
+  gq : SFits w64 (shr_z z 4)
+  gq = record { sfits = omega (arith, mag_shr z 4, fz.sfits) }
+
+pub points_dot-requires : goal.points_dot-requires
+points_dot-requires c = c.requires
+
+pub overflow_cast-result : goal.overflow_cast-result
+overflow_cast-result c = simp (to_z-of_z, fz c, fq c) (gq c)
+
+pub returns : goal.returns
+unfolding inner
+returns c = simp (to_z-of_z, fz c, fq c, gq c) (floor_div-shr (z c) 4 ∙ ap (λ (z : ℤ). floor_div z 4) c.points_dot.ensures)
