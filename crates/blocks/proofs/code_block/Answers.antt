@@ -47,7 +47,7 @@ module _ (w : After-width-reach) where
   m = s.args.m
 
   abbrev found : List ℕ
-  found = s.args.out-1.now
+  found = s.args.out.now
 
   two : 2 ≤ q
   two = base-two s.args.q s.requires.2
@@ -59,7 +59,7 @@ module _ (w : After-width-reach) where
   width_is = w.width-reach.ensures ∙ ap (λ (q : ℕ). pos (width q m)) q-is
 
   width_fits : SFits w64 w.width-reach.result
-  width_fits = record { sfits = w.width-reach.ok }
+  width_fits = record { sfits = w.width-reach.type_inv }
 
   reach-is : w.width-reach.result +ℤ pos 1 ≡ pos (width q m + 1)
   reach-is = ap (λ (y : ℤ). y +ℤ pos 1) width_is
@@ -75,8 +75,8 @@ module _ (l : At-loop-t) where
   abbrev t : ℕ
   t = l.loop-t.t
 
-  walked : Walked e8 nearest (q w) (m w) (x w) (steps w) (found w) t l.loop-t.out-1
-  walked = subst (λ (n : ℕ). Walked e8 nearest n (m w) (x w) (steps w) (found w) t l.loop-t.out-1) (q-is w) l.loop-t.invariant
+  walked : Walked e8 nearest (q w) (m w) (x w) (steps w) (found w) t l.loop-t.out
+  walked = subst (λ (n : ℕ). Walked e8 nearest n (m w) (x w) (steps w) (found w) t l.loop-t.out) (q-is w) l.loop-t.invariant
 
 -- the step z that is tried
 module _ (c : After-try_place-arg-1) where
@@ -113,10 +113,10 @@ module _ (c : After-try_place) where
   same f = ap₂ f (q-is v) (ap (λ (y : ℤ). to_z w64 (of_z w64 y)) (to_z-of_z (fz a)) ∙ to_z-of_z (gz a))
 
   tested : c.try_place.result ≡ fits e8 nearest (q v) (m v) (z a) (x v)
-  tested = c.try_place.ensures.0 ∙ same (λ (q : ℕ) (z : ℤ). fits e8 nearest q (m v) z (x v))
+  tested = c.try_place.ensures.answer ∙ same (λ (q : ℕ) (z : ℤ). fits e8 nearest q (m v) z (x v))
 
-  room-is : c.try_place.new.out ≡ room_at e8 nearest (q v) (m v) (t b) (z a) (x v) b.loop-t.out-1
-  room-is = c.try_place.ensures.1 ∙ same (λ (q : ℕ) (z : ℤ). room_at e8 nearest q (m v) (t b) z (x v) b.loop-t.out-1)
+  room-is : c.try_place.new.out ≡ room_at e8 nearest (q v) (m v) (t b) (z a) (x v) b.loop-t.out
+  room-is = c.try_place.ensures.room ∙ same (λ (q : ℕ) (z : ℤ). room_at e8 nearest q (m v) (t b) z (x v) b.loop-t.out)
 
   code-long : length (code_at e8 nearest (q v) (m v) (t b) (z a) (x v)) ≡ length (found v)
   code-long = ap suc (digits8-long (q v) (m v) (point_at e8 nearest (z a) (x v))) ∙ sym ((s v).requires.4 ∙ add-one (8 * m v))
@@ -137,27 +137,27 @@ pub overflow_cast-steps : goal.overflow_cast-steps
 overflow_cast-steps c = simp (to_z-of_z, fz c) (gz c)
 
 pub try_place-requires : goal.try_place-requires
-try_place-requires c κs =
+try_place-requires c =
     let a = c.before in let b = l a in let v = w b in let s = s v in
     simp (to_z-of_z, fz a, gz a, s.ranges.q, width_fits v, reach-fits v) (s.requires.0, divisor a, omega (arith, within a, s.requires.1.few), reach-is v, s.requires.2, s.requires.3, b.loop-t.invariant.long ∙ s.requires.4)
 
 pub shape_of-out-then-try_place : goal.shape_of-out-then-try_place
 shape_of-out-then-try_place c = let p = c.before.before.before in let v = v p in
-    ap length (room-is p) ∙ either-long (in_reach e8 nearest (q v) (m v) (z (a p)) (x v)) _ (b p).loop-t.out-1 (length (found v)) (code-long p) (b p).loop-t.invariant.long
+    ap length (room-is p) ∙ either-long (in_reach e8 nearest (q v) (m v) (z (a p)) (x v)) _ (b p).loop-t.out (length (found v)) (code-long p) (b p).loop-t.invariant.long
 
 pub returns-then-try_place : goal.returns-then-try_place
 returns-then-try_place c =
     let p = c.before.before.before in let l = b p in let w = v p in let e = sym (tested p) ∙ c.if-try_place.true in
-    let h = walked_here e8 nearest (q w) (m w) (x w) (steps w) (found w) (t l) l.loop-t.out-1 (walked l) (within (a p)) (reached p e) e in (h.0, room-is p ∙ h.1)
+    let h = walked_here e8 nearest (q w) (m w) (x w) (steps w) (found w) (t l) l.loop-t.out (walked l) (within (a p)) (reached p e) e in record { answer = h.0; room = room-is p ∙ h.1 }
 
 pub loop-t-preserved : goal.loop-t-preserved
 loop-t-preserved c =
     let p = c.before.before.before in let l = b p in let w = v p in
     subst₂ (λ (n : ℕ) (o : List ℕ). Walked e8 nearest n (m w) (x w) (steps w) (found w) (t l + 1) o) (sym (q-is w)) (sym (room-is p))
-    (walked_more e8 nearest (q w) (m w) (x w) (steps w) (found w) (t l) l.loop-t.out-1 (walked l) (within (a p)) (sym (tested p) ∙ c.if-try_place.false) (code-long p))
+    (walked_more e8 nearest (q w) (m w) (x w) (steps w) (found w) (t l) l.loop-t.out (walked l) (within (a p)) (sym (tested p) ∙ c.if-try_place.false) (code-long p))
 
 pub shape_of-out : goal.shape_of-out
 shape_of-out c = c.before.loop-t.invariant.long
 
 pub returns : goal.returns
-returns c = let l = c.before in let w = w l in walked_all e8 nearest (q w) (m w) (x w) (steps w) (found w) (t l) l.loop-t.out-1 (walked l) (omega arith)
+returns c = let l = c.before in let w = w l in walked_all e8 nearest (q w) (m w) (x w) (steps w) (found w) (t l) l.loop-t.out (walked l) (omega arith)

@@ -12,9 +12,7 @@ use Rattle.integers.specs.Laws.Sizes.{fits-mul}
 use Rattle.integers.specs.Vectors.{«at»}
 use Rattle.blocks.proofs.doubled.Goals as goal
 use Rattle.blocks.proofs.doubled.Goals.{After-r-1}
-
-abbrev twice : ℤ → ℤ
-twice z = pos 2 *ℤ z
+use Rattle.blocks.proofs.doubled.Invariants.{twice}
 
 narrow : (z : ℤ) → SFits w32 z → nat_abs z ≤ 2 ^ 31
 narrow (pos n) h = omega (arith, h.sfits)

@@ -12,6 +12,9 @@ use Rattle.integers.specs.Laws.Sizes.{fits-mul}
 use Rattle.integers.specs.Vectors.{«at»}
 use Rattle.blocks.proofs.doubled.Given as goal
 
+abbrev pub twice : ℤ → ℤ
+twice z = pos 2 *ℤ z
+
 abbrev pub invariant-loop-i : goal.invariant-loop-i
 invariant-loop-i l = Filled twice 8 l.x l.i l.r
 

@@ -53,7 +53,7 @@ module _ (s : Start) where
   m = s.args.m
 
   abbrev found : List ℕ
-  found = s.args.out-1.now
+  found = s.args.out.now
 
   two : 2 ≤ q
   two = base-two s.args.q s.requires.4
@@ -130,7 +130,7 @@ module _ (c : After-nothing_left) where
   s = near.before.before.before
 
   tested : c.nothing_left.result ≡ fits e8 nearest (q s) (m s) (z s) (x s)
-  tested = c.nothing_left.ensures ∙ ap (λ (r : Trial). nothing_left r.leftover-1) (made.try_step-found.ensures.0 ∙ same s (λ (q : ℕ) (z : ℤ). trial8 q (m s) z (x s)))
+  tested = c.nothing_left.ensures ∙ ap (λ (r : Trial). nothing_left r.leftover) (made.try_step-found.ensures.answer ∙ same s (λ (q : ℕ) (z : ℤ). trial8 q (m s) z (x s)))
 
   abbrev digits : List ℕ
   digits = digits8 (q s) (m s) (point_at e8 nearest (z s) (x s))
@@ -150,7 +150,7 @@ module _ (c : After-nothing_left) where
 
   part-is : part ≡ digits ++ drop (length digits) lent
   part-is =
-      made.try_step-found.ensures.1 ∙ same s (λ (q : ℕ) (z : ℤ). digits8 q (m s) (point_at e8 nearest z (x s)) ++ drop (8 * m s) lent)
+      made.try_step-found.ensures.room ∙ same s (λ (q : ℕ) (z : ℤ). digits8 q (m s) (point_at e8 nearest z (x s)) ++ drop (8 * m s) lent)
       ∙ ap (λ (n : ℕ). digits ++ drop n lent) (sym digits_long)
 
   room-is : put_mid 1 (length out - 1) out part ≡ bytes s
@@ -163,8 +163,8 @@ pub shape_of-out-then-small : goal.shape_of-out-then-small
 shape_of-out-then-small c = ap length (room-is c) ∙ code-long c
 
 pub returns-then-small : goal.returns-then-small
-returns-then-small c = (tested c, room-is c ∙ room_after (s c) true (sym (near-is (near c).before) ∙ (near c).if-small.true))
+returns-then-small c = record { answer = tested c; room = room-is c ∙ room_after (s c) true (sym (near-is (near c).before) ∙ (near c).if-small.true) }
 
 pub returns : goal.returns
 returns c = let s = c.before.before.before in let e = sym (near-is c.before) ∙ c.if-small.false in let l : 2 ≤ q s = two s in
-    (sym (past-reach e8 nearest (x s) s.requires.0.long (q s) (m s) (omega arith) (z s) (divisor-positive (z s) s.requires.1) e), room_after s false e)
+    record { answer = sym (past-reach e8 nearest (x s) s.requires.0.long (q s) (m s) (omega arith) (z s) (divisor-positive (z s) s.requires.1) e); room = room_after s false e }

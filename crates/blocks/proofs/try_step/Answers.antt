@@ -45,7 +45,4 @@ same : {A : Type 0} (f : ℕ → List ℤ → A) (p : After-nearest_point-point)
 same f p = ap₂ (λ (z : ℤ) (e : List ℤ). f (nat_abs z) e) (to_z-of_z (s p).ranges.q) (point-is p)
 
 pub returns : goal.returns
-returns c = let d = c.before.before in let p = d.before.before.before in let m = (s p).args.m in let out = (s p).args.out-1.now in (
-  ap₂ (λ (e f : List ℤ). record { point = e; leftover = f }) (point-is p) (d.digits-leftover.ensures.0 ∙ same (λ (q : ℕ). leftover8 q m) p),
-  d.digits-leftover.ensures.1 ∙ same (λ (q : ℕ) (e : List ℤ). digits8 q m e ++ drop (8 * m) out) p,
-)
+returns c = let d = c.before.before in let p = d.before.before.before in let m = (s p).args.m in let out = (s p).args.out.now in record { answer = ap₂ (λ (e f : List ℤ). record { point = e; leftover = f }) (point-is p) (d.digits-leftover.ensures.0 ∙ same (λ (q : ℕ). leftover8 q m) p); room = d.digits-leftover.ensures.1 ∙ same (λ (q : ℕ) (e : List ℤ). digits8 q m e ++ drop (8 * m) out) p }

@@ -27,7 +27,7 @@ module _ (l : At-loop-i) where
   abbrev i : ℕ
   i = l.loop-i.i
 
-  w-is : to_z w64 l.loop-i.w ≡ pos (width q i)
+  w-is : to_z w64 l.loop-i.w-bits ≡ pos (width q i)
   w-is = l.loop-i.invariant.1 ∙ ap (λ (z : ℤ). pos (width (nat_abs z) i)) (to_z-of_z s.ranges.q)
 
   next : z +ℤ z *ℤ pos (width q i) ≡ pos (width q (suc i))

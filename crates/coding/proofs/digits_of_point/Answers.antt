@@ -22,7 +22,16 @@ use Rattle.coding.specs.Laws.Asked.{allowed-base, PointTaken, point-taken, lefto
 use Rattle.layers.specs.Laws.E8.{digits8-long}
 use Rattle.layers.specs.Sizes.{Base}
 use Rattle.coding.proofs.digits_of_point.Goals as goal
-use Rattle.coding.proofs.digits_of_point.Goals.{After-digits-g, After-layers, In-Accepted, Start}
+use Rattle.coding.proofs.digits_of_point.Goals.{After-digits-g, Start}
+use Rattle.coding.proofs.digits_of_point.Lts as lts
+use Rattle.coding.proofs.digits_of_point.Tie as tie
+use Rattle.coding.proofs.digits_of_point.Reads as reads
+
+abbrev After-layers : Type 0
+After-layers = lts.After-layers tie.the-claims reads.Pre reads.Post tie.handed_clauses
+
+abbrev In-Accepted : Type 0
+In-Accepted = lts.After-enum_told tie.the-claims reads.Pre reads.Post tie.handed_clauses
 
 -- where nothing is refused
 module _ (c : In-Accepted) where
@@ -39,7 +48,7 @@ module _ (c : In-Accepted) where
   e = s.args.e.now
 
   abbrev out : List ℕ
-  out = s.args.out-1.now
+  out = s.args.out.now
 
   accepted : check_point s.args.s e (length out) ≡ Accepted
   accepted = sym c.before.before.check_point.ensures ∙ c.enum_told-1.given.1
@@ -79,13 +88,13 @@ module _ (c : After-digits-g) where
   out-is = c.digits-g.ensures.1 ∙ same l (λ (q m : ℕ) (e : List ℤ). digits8 q m e ++ drop (8 * m) (out t))
 
 pub widen-requires : goal.widen-requires
-widen-requires c = (taken c).input.long
+widen-requires c = (taken c.before).input.long
 
 pub base-requires : goal.base-requires
-base-requires c = (taken c.before.before).allowed
+base-requires c = (taken c.before.before.before).allowed
 
 pub layers-requires : goal.layers-requires
-layers-requires c = (taken c.before.before.before).allowed
+layers-requires c = (taken c.before.before.before.before).allowed
 
 pub digits-g-requires : goal.digits-g-requires
 digits-g-requires c = let l = c.before in let t = told l in let h = taken t in
@@ -102,12 +111,9 @@ pub returns-in-Refused : goal.returns-in-Refused
 unfolding coded digit_room
 returns-in-Refused c = let k = c.before.before.before.before in let v = k.before.before.args in let q = nat_abs v.s.q in let m = nat_abs v.s.m in
     let r = sym (sym k.check_point.ensures ∙ c.before.before.r-1.given.1) in
-    (c.refused.ensures ∙ ap (λ (w : Verdict). answered w (leftover8 q m v.e.now)) r, ap (λ (w : Verdict). written w (digits8 q m v.e.now) v.out-1.now) r)
+    record { answer = c.refused.ensures ∙ ap (λ (w : Verdict). answered w (leftover8 q m v.e.now)) r; room = ap (λ (w : Verdict). written w (digits8 q m v.e.now) v.out.now) r }
 
 pub returns-in-Accepted : goal.returns-in-Accepted
 unfolding coded digit_room
 returns-in-Accepted c = let d = c.before.before.before.before in let b = t d in let f = digits8 (q b) (m b) (e b) in
-    let left : c.narrow.result ≡ leftover8 (q b) (m b) (e b) = c.narrow.ensures ∙ left_is d in (
-      rw left (ap (λ (w : Verdict). answered w (leftover8 (q b) (m b) (e b))) (sym (accepted b))),
-      out-is d ∙ ap (λ (k : ℕ). f ++ drop k (out b)) (sym (digits8-long (q b) (m b) (e b))) ∙ ap (λ (w : Verdict). written w f (out b)) (sym (accepted b)),
-    )
+    let left : c.narrow.result ≡ leftover8 (q b) (m b) (e b) = c.narrow.ensures ∙ left_is d in record { answer = rw left (ap (λ (w : Verdict). answered w (leftover8 (q b) (m b) (e b))) (sym (accepted b))); room = out-is d ∙ ap (λ (k : ℕ). f ++ drop k (out b)) (sym (digits8-long (q b) (m b) (e b))) ∙ ap (λ (w : Verdict). written w f (out b)) (sym (accepted b)) }

@@ -16,7 +16,13 @@ use Rattle.layers.specs.E8.{decode8}
 use Rattle.coding.specs.Laws.Asked.{allowed-base, DigitsTaken, digits-taken, decoded-narrow}
 use Rattle.layers.specs.Sizes.{Base, long_power}
 use Rattle.coding.proofs.point_of_digits.Goals as goal
-use Rattle.coding.proofs.point_of_digits.Goals.{After-decode_one-e, After-layers, In-Accepted, Start}
+use Rattle.coding.proofs.point_of_digits.Goals.{After-decode_one-e, After-layers, Start}
+use Rattle.coding.proofs.point_of_digits.Lts as lts
+use Rattle.coding.proofs.point_of_digits.Tie as tie
+use Rattle.coding.proofs.point_of_digits.Reads as reads
+
+abbrev In-Accepted : Type 0
+In-Accepted = lts.After-enum_told tie.the-claims reads.Pre reads.Post tie.handed_clauses
 
 -- where nothing is refused
 module _ (c : In-Accepted) where
@@ -35,7 +41,7 @@ module _ (c : In-Accepted) where
 -- the numbers that decoding is given
 module _ (c : After-layers) where
   abbrev told : In-Accepted
-  told = c.before.before
+  told = c.before.before.before
 
   fits : SFits w64 c.before.base.result
   fits = record { sfits = c.before.base.type_inv }
@@ -47,13 +53,13 @@ found c = let l = c.before in let v = (s (told l)).args in
     ∙ ap₂ (λ (q : ℤ) (m : ℕ). decode8 (nat_abs q) m v.ds.now) l.before.base.ensures l.layers.ensures
 
 pub base-requires : goal.base-requires
-base-requires c = (taken c).allowed
+base-requires c = (taken c.before).allowed
 
 pub layers-requires : goal.layers-requires
-layers-requires c = (taken c.before).allowed
+layers-requires c = (taken c.before.before).allowed
 
 pub decode_one-e-requires : goal.decode_one-e-requires
-decode_one-e-requires c κs =
+decode_one-e-requires c =
     let t = told c in let v = (s t).args in let h = taken t in let q-is : c.before.base.result ≡ v.s.q = c.before.base.ensures in let m-is : c.layers.result ≡ nat_abs v.s.m = c.layers.ensures in
     simp (to_z-of_z, fits c) (
       subst Base (sym q-is) (allowed-base v.s.q v.s.m h.allowed),

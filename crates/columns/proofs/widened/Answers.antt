@@ -16,7 +16,7 @@ use Rattle.columns.proofs.widened.Goals.{After-r-1, At-loop-k}
 
 module _ (c : After-r-1) where
   abbrev l : At-loop-k
-  l = c.before.before
+  l = c.before.before.before.before
 
   abbrev ds : List ℕ
   ds = l.before.args.ds.now

@@ -17,7 +17,7 @@ use Rattle.refusals.specs.Limits.{blocks_most}
 use Rattle.refusals.specs.Settings.{check_settings}
 use Rattle.refusals.specs.Steps.{check_steps}
 use Rattle.refusals.specs.Verdicts.{unless, first_refusal}
-use Rattle.layers-m.specs.Digits.{cut}
+use Rattle.layers.specs.Digits.{cut}
 use Rattle.records.specs.Eight.Codes.{block_size, blocks_in, code_blocks, check_blocks}
 use Rattle.decoding.specs.Decode.{fvecs_length, check_decode}
 use Rattle.records.specs.Frames.{good_record, Framed}

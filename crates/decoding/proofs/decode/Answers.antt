@@ -33,7 +33,7 @@ module _ (c : After-check_decode) where
   code = s.args.code.now
 
   abbrev found : List ℕ
-  found = s.args.out-1.now
+  found = s.args.out.now
 
   abbrev size : ℕ
   size = fvecs_length (blocks_in m code)
@@ -78,7 +78,7 @@ module _ (c : After-put_record-n) where
   t = k (told l)
 
   n-is : c.put_record-n.result ≡ size t
-  n-is = c.put_record-n.ensures.0 ∙ ap (λ (m : ℕ). fvecs_length (blocks_in m (code t))) (m-is l)
+  n-is = c.put_record-n.ensures.answer ∙ ap (λ (m : ℕ). fvecs_length (blocks_in m (code t))) (m-is l)
 
   n-fits : SFits w64 (pos c.put_record-n.result)
   n-fits = record { sfits = omega (arith, n-is, (taken (told l)).input.frame.whole.few) }
@@ -88,7 +88,7 @@ module _ (c : After-put_record-n) where
 
   out-is : last ≡ whole t ++ drop (size t) (found t)
   out-is =
-      c.put_record-n.ensures.1
+      c.put_record-n.ensures.room
       ∙ ap₂ (λ (z : ℤ) (m : ℕ). decoded_record (nat_abs z) m (steps t) (blocks_in m (code t)) (code_blocks m (code t)) ++ drop (fvecs_length (blocks_in m (code t))) (found t)) (to_z-of_z (fits l) ∙ q-is l) (m-is l)
 
 pub base-requires : goal.base-requires
@@ -112,15 +112,9 @@ overflow_cast-result c = n-fits c.before.before
 
 pub returns-in-Refused : goal.returns-in-Refused
 unfolding decoded decoded_room
-returns-in-Refused c = let k = c.before.before.before.before in let r = sym (sym (checked k) ∙ c.before.before.r-1.given.1) in (
-  c.refused.ensures ∙ ap (λ (w : Verdict). valued w (pos (size k))) r,
-  ap (λ (w : Verdict). written w (whole k) (found k)) r,
-)
+returns-in-Refused c = let k = c.before.before.before.before in let r = sym (sym (checked k) ∙ c.before.before.r-1.given.1) in record { answer = c.refused.ensures ∙ ap (λ (w : Verdict). valued w (pos (size k))) r; room = ap (λ (w : Verdict). written w (whole k) (found k)) r }
 
 pub returns-in-Accepted : goal.returns-in-Accepted
 unfolding decoded decoded_room
 returns-in-Accepted c = let p = c.before.before in let b = t p in let a = sym (accepted (told (l p))) in
-    let long : length (whole b) ≡ size b = front_long (whole b) (found b) (size b) (last p) (out-is p) (search rules) (taken (told (l p))).fits in (
-      simp (to_z-of_z, n-fits p) (ap (λ (n : ℕ). valued Accepted (pos n)) (n-is p) ∙ ap (λ (w : Verdict). valued w (pos (size b))) a),
-      out-is p ∙ ap (λ (n : ℕ). whole b ++ drop n (found b)) (sym long) ∙ ap (λ (w : Verdict). written w (whole b) (found b)) a,
-    )
+    let long : length (whole b) ≡ size b = front_long (whole b) (found b) (size b) (last p) (out-is p) (search rules) (taken (told (l p))).fits in record { answer = simp (to_z-of_z, n-fits p) (ap (λ (n : ℕ). valued Accepted (pos n)) (n-is p) ∙ ap (λ (w : Verdict). valued w (pos (size b))) a); room = out-is p ∙ ap (λ (n : ℕ). whole b ++ drop n (found b)) (sym long) ∙ ap (λ (w : Verdict). written w (whole b) (found b)) a }

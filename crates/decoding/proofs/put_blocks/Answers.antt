@@ -41,12 +41,12 @@ module _ (l : At-loop-i) where
   i = l.loop-i.i
 
   abbrev found : List ℕ
-  found = s.args.out-1.now
+  found = s.args.out.now
 
   abbrev written : List ℕ
   written = joined (map (decoded_bytes q m steps) (cut (block_size m) i body))
 
-  out-is : l.loop-i.out-1 ≡ written ++ drop (32 * i) found
+  out-is : l.loop-i.out ≡ written ++ drop (32 * i) found
   out-is = simp (to_z-of_z, s.ranges.q) at l.loop-i.invariant.2
 
   n-is : l.before.block_size-n.result ≡ block_size m
@@ -106,12 +106,12 @@ module _ (c : After-put_readings) where
   part-is = (simp (to_z-of_z, step_fits z) at c.put_readings.ensures)
       ∙ ap₂ (λ (s : ℤ) (e : List ℤ). joined (map (reading_bytes s) e)) (step_is z) (row_is t (i t) (b z).loop-i-test.true)
 
-  more-is : put_mid (32 * i t) (32 * i t + 32 - 32 * i t) t.loop-i.out-1 part ≡ joined (map (decoded_bytes (q t) (m t) (steps t)) (cut (block_size (m t)) (i t + 1) (body t))) ++ drop (32 * (i t + 1)) (found t)
+  more-is : put_mid (32 * i t) (32 * i t + 32 - 32 * i t) t.loop-i.out part ≡ joined (map (decoded_bytes (q t) (m t) (steps t)) (cut (block_size (m t)) (i t + 1) (body t))) ++ drop (32 * (i t + 1)) (found t)
   more-is =
       let g = decoded_bytes (q t) (m t) (steps t) in let a : ℕ = 32 * i t in let whole : a + 32 - a ≡ 32 = omega arith in let next : a + 32 ≡ 32 * (i t + 1) = omega arith in
-      ap₂ (λ (k : ℕ) (p : List ℕ). put_mid a k t.loop-i.out-1 p) whole part-is
+      ap₂ (λ (k : ℕ) (p : List ℕ). put_mid a k t.loop-i.out p) whole part-is
       ∙ ap (λ (o : List ℕ). take a o ++ (g (block t (i t)) ++ drop 32 (drop a o))) (out-is t)
-      ∙ write-in (written t) (g (block t (i t))) (found t) a 32 (front_long (written t) (found t) a t.loop-i.out-1 (out-is t) t.loop-i.invariant.1 (omega (arith, room (b z))))
+      ∙ write-in (written t) (g (block t (i t))) (found t) a 32 (front_long (written t) (found t) a t.loop-i.out (out-is t) t.loop-i.invariant.1 (omega (arith, room (b z))))
       ∙ ap₂ (λ (w : List ℕ) (k : ℕ). w ++ drop k (found t)) (sym (ap (λ (l : List (List ℕ)). joined (map g l)) (cut-more (block_size (m t)) (i t) (body t)) ∙ joined-more g (cut (block_size (m t)) (i t) (body t)) (block t (i t)))) next
 
 pub whole_points-requires : goal.whole_points-requires

@@ -23,8 +23,8 @@ put_blocks-requires-else-q-eq2 c = let e = c.before.before in let s = e.before.b
 
 pub returns-then-q-eq2 : goal.returns-then-q-eq2
 returns-then-q-eq2 c = let p = c.before.before in let s = p.before.before.before.before.before.before.before in let a = s.args in
-    p.put_blocks.ensures ∙ ap (λ (q : ℤ). joined (map (decoded_bytes (nat_abs q) a.m a.steps.now) (cut (block_size a.m) a.k a.body.now)) ++ drop (32 * a.k) a.out-1.now) (to_z-of_z s.ranges.q)
+    p.put_blocks.ensures ∙ ap (λ (q : ℤ). joined (map (decoded_bytes (nat_abs q) a.m a.steps.now) (cut (block_size a.m) a.k a.body.now)) ++ drop (32 * a.k) a.out.now) (to_z-of_z s.ranges.q)
 
 pub returns-else-q-eq2 : goal.returns-else-q-eq2
 returns-else-q-eq2 c = let p = c.before.before in let s = p.before.before.before.before.before.before in let a = s.args in
-    p.put_blocks-else-q-eq2.ensures ∙ ap (λ (q : ℤ). joined (map (decoded_bytes (nat_abs q) a.m a.steps.now) (cut (block_size a.m) a.k a.body.now)) ++ drop (32 * a.k) a.out-1.now) (to_z-of_z s.ranges.q)
+    p.put_blocks-else-q-eq2.ensures ∙ ap (λ (q : ℤ). joined (map (decoded_bytes (nat_abs q) a.m a.steps.now) (cut (block_size a.m) a.k a.body.now)) ++ drop (32 * a.k) a.out.now) (to_z-of_z s.ranges.q)

@@ -32,16 +32,16 @@ module _ (l : At-loop-i) where
   i = l.loop-i.i
 
   abbrev found : List ℕ
-  found = start.args.out-1.now
+  found = start.args.out.now
 
   abbrev written : List ℕ
   written = joined (map (reading_bytes s) (take i e))
 
-  out-is : l.loop-i.out-1 ≡ written ++ drop (4 * i) found
+  out-is : l.loop-i.out ≡ written ++ drop (4 * i) found
   out-is = simp (to_z-of_z, start.ranges.s) at l.loop-i.invariant.2
 
   written-long : length written ≡ 4 * i
-  written-long = front_long written found (4 * i) l.loop-i.out-1 out-is (omega (arith, start.requires.1)) (omega (arith, start.requires.1))
+  written-long = front_long written found (4 * i) l.loop-i.out out-is (omega (arith, start.requires.1)) (omega (arith, start.requires.1))
 
 -- the coordinate i
 module _ (c : After-put_decoded-arg-in-loop-i-1) where
@@ -77,7 +77,7 @@ pub overflow_cast-e : goal.overflow_cast-e
 overflow_cast-e c = simp (to_z-of_z, narrow-fits c) (fits c)
 
 pub put_decoded-requires : goal.put_decoded-requires
-put_decoded-requires c = let b = l c in simp (to_z-of_z, (start b).ranges.s, narrow-fits c, fits c) (omega arith, (start b).requires.0.exact (i b))
+put_decoded-requires c = let b = l c in simp (to_z-of_z, (start b).ranges.s, narrow-fits c, fits c) record { i_in_bounds = omega arith; e_bound = (start b).requires.0.exact (i b) }
 
 pub loop-i-preserved : goal.loop-i-preserved
 loop-i-preserved c = let p = c.before.before in (omega arith, search rules, simp (to_z-of_z, (start (b p)).ranges.s) (more-is p))

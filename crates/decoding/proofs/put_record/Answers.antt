@@ -35,7 +35,7 @@ module _ (c : After-blocks_in-k) where
   code = s.args.code.now
 
   abbrev found : List ℕ
-  found = s.args.out-1.now
+  found = s.args.out.now
 
   abbrev K : ℕ
   K = blocks_in m code
@@ -130,4 +130,4 @@ pub overflow_add-result : goal.overflow_add-result
 overflow_add-result c = let p = c.before.before in omega (arith, few (k p))
 
 pub returns : goal.returns
-returns c = let p = c.before.before in (ap fvecs_length (k-is (k p)), all-is p)
+returns c = let p = c.before.before in record { answer = ap fvecs_length (k-is (k p)); room = all-is p }

@@ -48,7 +48,7 @@ module _ (l : At-loop-i) where
   steps = s.args.steps.now
 
   abbrev found : List ℕ
-  found = s.args.out-1.now
+  found = s.args.out.now
 
   abbrev i : ℕ
   i = l.loop-i.i
@@ -68,7 +68,7 @@ module _ (l : At-loop-i) where
   same : check_fits (code8 q m) steps 0 (cut 8 k X) ≡ check_fits (code8 q m) steps i (cut 8 (k - i) (drop (8 * i) X))
   same = simp (to_z-of_z, s.ranges.q) at l.loop-i.invariant.2
 
-  out-is : l.loop-i.out-1 ≡ code_bytes (code8 q m) steps (cut 8 i X) ++ drop (n * i) found
+  out-is : l.loop-i.out ≡ code_bytes (code8 q m) steps (cut 8 i X) ++ drop (n * i) found
   out-is = simp (to_z-of_z, s.ranges.q) at l.loop-i.invariant.3
 
 -- block i
@@ -102,7 +102,7 @@ loop-i-init c = let v = c.before.before.args in let z : 0 ≡ c.block_size-n.res
   omega arith,
   refl,
   ap (check_fits (code8 (nat_abs (to_z w64 (of_z w64 v.q))) v.m) v.steps.now 0) (cut-whole 8 v.x.now v.k),
-  ap (λ (j : ℕ). drop j v.out-1.now) z,
+  ap (λ (j : ℕ). drop j v.out.now) z,
 )
 
 pub overflow_mul-from : goal.overflow_mul-from
@@ -115,7 +115,7 @@ pub slice_bounds-code_block-end-in-loop-i : goal.slice_bounds-code_block-end-in-
 slice_bounds-code_block-end-in-loop-i c = omega (arith, within c.before, (l c.before).loop-i.invariant.1)
 
 pub code_block-requires : goal.code_block-requires
-code_block-requires c = let b = c.before.before in let o = (l b).loop-i.out-1 in
+code_block-requires c = let b = c.before.before in let o = (l b).loop-i.out in
     simp (to_z-of_z, (s (l b)).ranges.q) (
       subst (λ (t : ℕ). Sized 8 (2 ^ 24) (take t (drop (8 * i (l b)) (X (l b))))) (sym (eight b)) (is_block b),
       (s (l b)).requires.1,
@@ -143,19 +143,19 @@ module _ (c : After-code_block) where
   given f = ap₂ f (ap nat_abs (to_z-of_z (s at).ranges.q)) (ap (λ (t : ℕ). take t (drop (8 * i at) (X at))) (eight b))
 
   place_is : c.code_block.result ≡ T
-  place_is = c.code_block.ensures.0 ∙ given (λ (q : ℕ) (x : List ℤ). first_fitting e8 nearest q (m at) (steps at) x)
+  place_is = c.code_block.ensures.answer ∙ given (λ (q : ℕ) (x : List ℤ). first_fitting e8 nearest q (m at) (steps at) x)
 
   part-is : T < length (steps at) → part ≡ block_code e8 nearest (q at) (m at) (steps at) (block b)
   part-is h =
-      let room : List ℕ = take (n at * i at + n at - n at * i at) (drop (n at * i at) at.loop-i.out-1) in
-      c.code_block.ensures.1 ∙ given (λ (q : ℕ) (x : List ℤ). tried_room e8 nearest q (m at) 0 (steps at) x room)
+      let room : List ℕ = take (n at * i at + n at - n at * i at) (drop (n at * i at) at.loop-i.out) in
+      c.code_block.ensures.room ∙ given (λ (q : ℕ) (x : List ℤ). tried_room e8 nearest q (m at) 0 (steps at) x room)
       ∙ tried-block8 (s at).args.q (m at) (steps at) (block b) (s at).requires.2 (s at).requires.1 (is_block b) h room
 
-  more-is : T < length (steps at) → put_mid (n at * i at) (n at * i at + n at - n at * i at) at.loop-i.out-1 part ≡ code_bytes (code8 (q at) (m at)) (steps at) (cut 8 (i at + 1) (X at)) ++ drop (n at * (i at + 1)) (found at)
+  more-is : T < length (steps at) → put_mid (n at * i at) (n at * i at + n at - n at * i at) at.loop-i.out part ≡ code_bytes (code8 (q at) (m at)) (steps at) (cut 8 (i at + 1) (X at)) ++ drop (n at * (i at + 1)) (found at)
   more-is h =
       let code = block_code e8 nearest (q at) (m at) (steps at) (block b) in let before = code_bytes (code8 (q at) (m at)) (steps at) (cut 8 (i at) (X at)) in let a = n at * i at in
       let next : a + n at ≡ n at * (i at + 1) = omega arith in
-      ap₂ (λ (k : ℕ) (p : List ℕ). put_mid a k at.loop-i.out-1 p) (size b) (part-is h)
+      ap₂ (λ (k : ℕ) (p : List ℕ). put_mid a k at.loop-i.out p) (size b) (part-is h)
       ∙ ap (λ (x : List ℕ). take a x ++ (code ++ drop (n at) (drop a x))) (out-is at)
       ∙ write-in before code (found at) a (n at) (bytes-long at)
       ∙ ap₂ (λ (w : List ℕ) (j : ℕ). w ++ drop j (found at)) (sym (code_bytes-more (q at) (m at) (steps at) (i at) (X at))) next
@@ -163,7 +163,7 @@ module _ (c : After-code_block) where
 pub returns-then-code_block-steps : goal.returns-then-code_block-steps
 returns-then-code_block-steps c = let a = c.before.before.before in let g = at a in
     let none = fits-none (code8 (q g) (m g)) (steps g) (i g) (block (b a)) (rest (b a)) (subst (λ (t : ℕ). length (steps g) ≤ t) (place_is a) c.if-code_block-steps.true) in
-    (sym (opened (b a) ∙ none), λ e. refused-never e)
+    record { answer = sym (opened (b a) ∙ none); room = λ e. refused-never e }
 
 pub loop-i-preserved : goal.loop-i-preserved
 loop-i-preserved c = let a = c.before.before.before in let g = at a in
@@ -176,7 +176,4 @@ loop-i-preserved c = let a = c.before.before.before in let g = at a in
 
 pub returns : goal.returns
 returns c = let g = c.before in
-    let all : i g ≡ k g = omega arith in let none : k g - i g ≡ 0 = omega arith in (
-      sym (same g ∙ ap (λ (j : ℕ). check_fits (code8 (q g) (m g)) (steps g) (i g) (cut 8 j (drop (8 * i g) (X g)))) none),
-      λ e. out-is g ∙ ap₂ (λ (j t : ℕ). code_bytes (code8 (q g) (m g)) (steps g) (cut 8 j (X g)) ++ drop (t * j) (found g)) all (n-is g),
-    )
+    let all : i g ≡ k g = omega arith in let none : k g - i g ≡ 0 = omega arith in record { answer = sym (same g ∙ ap (λ (j : ℕ). check_fits (code8 (q g) (m g)) (steps g) (i g) (cut 8 j (drop (8 * i g) (X g)))) none); room = λ e. out-is g ∙ ap₂ (λ (j t : ℕ). code_bytes (code8 (q g) (m g)) (steps g) (cut 8 j (X g)) ++ drop (t * j) (found g)) all (n-is g) }

@@ -27,7 +27,7 @@ use Rattle.records.specs.Laws.Parts.{part-ends, cut-whole, cut-next, cut-long}
 use Rattle.encoding.proofs.code_blocks.Given as goal
 
 abbrev pub invariant-loop-i : goal.invariant-loop-i
-invariant-loop-i l = (l.i ≤ l.k) × (length l.out ≡ length l.initial.out)
+invariant-loop-i l =     (l.i ≤ l.k) × (length l.out ≡ length l.initial.out)
     × (check_fits (code8 (nat_abs l.q) l.m) l.steps 0 (cut 8 l.k l.x) ≡ check_fits (code8 (nat_abs l.q) l.m) l.steps l.i (cut 8 (l.k - l.i) (drop (8 * l.i) l.x)))
     × (l.out ≡ code_bytes (code8 (nat_abs l.q) l.m) l.steps (cut 8 l.i l.x) ++ drop (l.n * l.i) l.initial.out)
 

@@ -39,7 +39,7 @@ module _ (c : In-Accepted) where
   h = fvecs_hour b
 
   abbrev out : List ℕ
-  out = s.args.out-1.now
+  out = s.args.out.now
 
   asked : encode_asked (eight_of s.args.s) s.args.s steps h (length out) ≡ Accepted
   asked = sym c.before.before.check_fvecs_hour.ensures ∙ c.enum_told-1.given.1
@@ -65,7 +65,7 @@ module _ (c : In-Accepted-take_readings) where
   X = units_taken (h t).readings
 
   accepted : first_refusal (encode_asked (eight_of (s t).args.s) (s t).args.s (steps t) (h t) (length (out t)) ∷ check_readings 0 (h t).readings ∷ []) ≡ Accepted
-  accepted = ap₂ (λ (v w : Verdict). first_refusal (v ∷ w ∷ [])) (asked t) (sym r.take_readings.ensures.0 ∙ c.enum_told-in-Accepted-take_readings-1.given.1)
+  accepted = ap₂ (λ (v w : Verdict). first_refusal (v ∷ w ∷ [])) (asked t) (sym r.take_readings.ensures.answer ∙ c.enum_told-in-Accepted-take_readings-1.given.1)
 
   taken : EncodeTaken (eight_of (s t).args.s) (s t).args.s (steps t) (h t) (length (out t))
   taken = encode-taken (eight_of (s t).args.s) (s t).args.s (steps t) (h t) (length (out t)) (fvecs-sound (b t)) accepted
@@ -78,10 +78,10 @@ module _ (c : In-Accepted-take_readings) where
 
   -- they stand at the front
   front-is : take n room ≡ X
-  front-is = ap (take n) r.take_readings.ensures.1 ∙ take_at X _ n n-is
+  front-is = ap (take n) r.take_readings.ensures.room ∙ take_at X _ n n-is
 
   enough : n ≤ length room
-  enough = omega (arith, n-is, simp length-append at (ap length r.take_readings.ensures.1))
+  enough = omega (arith, n-is, simp length-append at (ap length r.take_readings.ensures.room))
 
 -- the numbers that coding is given
 module _ (c : After-layers) where
@@ -128,21 +128,18 @@ put_record-requires c = let l = c.before in let d = told l in let e = taken d in
 pub returns-in-Refused : goal.returns-in-Refused
 returns-in-Refused c = let a = c.before.before.before.before in let v = a.before.before.before.args in let h = fvecs_hour v.hour.now in
     let e = ap (λ (w : Verdict). first_refusal (w ∷ check_readings 0 h.readings ∷ [])) (sym a.check_fvecs_hour.ensures ∙ c.before.before.r-1.given.1) in
-    (c.refused.ensures ∙ encoded-refused (eight_of v.s) v.s v.steps.now h v.out-1.now _ e, encoded_room-refused (eight_of v.s) v.s v.steps.now h v.out-1.now _ e)
+    record { answer = c.refused.ensures ∙ encoded-refused (eight_of v.s) v.s v.steps.now h v.out.now _ e; room = encoded_room-refused (eight_of v.s) v.s v.steps.now h v.out.now _ e }
 
 pub returns-in-Refused-take_readings : goal.returns-in-Refused-take_readings
 returns-in-Refused-take_readings c = let a = c.before.before.before.before.before in let d = a.before.before.before in let v = (s d).args in
-    let e = ap₂ (λ (v w : Verdict). first_refusal (v ∷ w ∷ [])) (asked d) (sym a.take_readings.ensures.0 ∙ c.before.before.r-in-Refused-take_readings-1.given.1) in
-    (c.refused-in-Refused-take_readings.ensures ∙ encoded-refused (eight_of v.s) v.s v.steps.now (h d) v.out-1.now _ e, encoded_room-refused (eight_of v.s) v.s v.steps.now (h d) v.out-1.now _ e)
+    let e = ap₂ (λ (v w : Verdict). first_refusal (v ∷ w ∷ [])) (asked d) (sym a.take_readings.ensures.answer ∙ c.before.before.r-in-Refused-take_readings-1.given.1) in
+    record { answer = c.refused-in-Refused-take_readings.ensures ∙ encoded-refused (eight_of v.s) v.s v.steps.now (h d) v.out.now _ e; room = encoded_room-refused (eight_of v.s) v.s v.steps.now (h d) v.out.now _ e }
 
 pub returns-in-Accepted-take_readings : goal.returns-in-Accepted-take_readings
-returns-in-Accepted-take_readings c = let p = c.before.before in let l = p.before.before in let d = told l in let a = t d in let v = (s a).args in (
-  p.put_record.ensures.0
+returns-in-Accepted-take_readings c = let p = c.before.before in let l = p.before.before in let d = told l in let a = t d in let v = (s a).args in record { answer = p.put_record.ensures.answer
       ∙ ap₂ (λ (q : ℤ) (m : ℕ). valued (check_fits (code8 (nat_abs q) m) (steps a) 0 (in_blocks (take (n d - 0) (room d)))) (pos (code_length m (length (take (n d - 0) (room d)) / 8)))) (q-is l) (m-is l)
       ∙ ap (λ (x : List ℤ). valued (check_fits (code8 (nat_abs v.s.q) (nat_abs v.s.m)) (steps a) 0 (in_blocks x)) (pos (code_length (nat_abs v.s.m) (length x / 8)))) (x-is l)
-      ∙ encoded-is (eight_of v.s) v.s (steps a) (h a) (out a) (accepted d) (X d) refl (taken d).long,
-  p.put_record.ensures.1
+      ∙ encoded-is (eight_of v.s) v.s (steps a) (h a) (out a) (accepted d) (X d) refl (taken d).long; room = p.put_record.ensures.room
       ∙ ap₂ (λ (q : ℤ) (m : ℕ). written (check_fits (code8 (nat_abs q) m) (steps a) 0 (in_blocks (take (n d - 0) (room d)))) (code_record (code8 (nat_abs q) m) (steps a) (in_blocks (take (n d - 0) (room d)))) (out a)) (q-is l) (m-is l)
       ∙ ap (λ (x : List ℤ). written (check_fits (code8 (nat_abs v.s.q) (nat_abs v.s.m)) (steps a) 0 (in_blocks x)) (code_record (code8 (nat_abs v.s.q) (nat_abs v.s.m)) (steps a) (in_blocks x)) (out a)) (x-is l)
-      ∙ encoded_room-is (eight_of v.s) v.s (steps a) (h a) (out a) (accepted d) (X d) refl (taken d).long,
-)
+      ∙ encoded_room-is (eight_of v.s) v.s (steps a) (h a) (out a) (accepted d) (X d) refl (taken d).long }

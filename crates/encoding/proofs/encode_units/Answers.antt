@@ -37,7 +37,7 @@ module _ (c : In-Accepted) where
   h = units_hour x
 
   abbrev out : List ℕ
-  out = s.args.out-1.now
+  out = s.args.out.now
 
   accepted : first_refusal (encode_asked (eight_of s.args.s) s.args.s steps h (length out) ∷ check_readings 0 h.readings ∷ []) ≡ Accepted
   accepted = sym c.before.before.check_units_hour.ensures ∙ c.enum_told-1.given.1
@@ -82,12 +82,9 @@ put_record-requires c = let l = c.before in let t = told l in let e = taken t in
 pub returns-in-Refused : goal.returns-in-Refused
 returns-in-Refused c = let a = c.before.before.before.before in let v = a.before.before.args in
     let e = sym a.check_units_hour.ensures ∙ c.before.before.r-1.given.1 in
-    (c.refused.ensures ∙ encoded-refused (eight_of v.s) v.s v.steps.now (units_hour v.x.now) v.out-1.now _ e, encoded_room-refused (eight_of v.s) v.s v.steps.now (units_hour v.x.now) v.out-1.now _ e)
+    record { answer = c.refused.ensures ∙ encoded-refused (eight_of v.s) v.s v.steps.now (units_hour v.x.now) v.out.now _ e; room = encoded_room-refused (eight_of v.s) v.s v.steps.now (units_hour v.x.now) v.out.now _ e }
 
 pub returns-in-Accepted : goal.returns-in-Accepted
-returns-in-Accepted c = let p = c.before.before in let l = p.before.before in let t = told l in let v = (s t).args in (
-  p.put_record.ensures.0 ∙ ap₂ (λ (q : ℤ) (m : ℕ). valued (check_fits (code8 (nat_abs q) m) (steps t) 0 (in_blocks (x t))) (pos (code_length m (length (x t) / 8)))) (q-is l) (m-is l)
-      ∙ encoded-is (eight_of v.s) v.s (steps t) (h t) (out t) (accepted t) (x t) (same t) (long t),
-  p.put_record.ensures.1 ∙ ap₂ (λ (q : ℤ) (m : ℕ). written (check_fits (code8 (nat_abs q) m) (steps t) 0 (in_blocks (x t))) (code_record (code8 (nat_abs q) m) (steps t) (in_blocks (x t))) (out t)) (q-is l) (m-is l)
-      ∙ encoded_room-is (eight_of v.s) v.s (steps t) (h t) (out t) (accepted t) (x t) (same t) (long t),
-)
+returns-in-Accepted c = let p = c.before.before in let l = p.before.before in let t = told l in let v = (s t).args in record { answer = p.put_record.ensures.answer ∙ ap₂ (λ (q : ℤ) (m : ℕ). valued (check_fits (code8 (nat_abs q) m) (steps t) 0 (in_blocks (x t))) (pos (code_length m (length (x t) / 8)))) (q-is l) (m-is l)
+      ∙ encoded-is (eight_of v.s) v.s (steps t) (h t) (out t) (accepted t) (x t) (same t) (long t); room = p.put_record.ensures.room ∙ ap₂ (λ (q : ℤ) (m : ℕ). written (check_fits (code8 (nat_abs q) m) (steps t) 0 (in_blocks (x t))) (code_record (code8 (nat_abs q) m) (steps t) (in_blocks (x t))) (out t)) (q-is l) (m-is l)
+      ∙ encoded_room-is (eight_of v.s) v.s (steps t) (h t) (out t) (accepted t) (x t) (same t) (long t) }

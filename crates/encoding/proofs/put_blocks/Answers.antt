@@ -33,7 +33,7 @@ module _ (b : In-loop-i) where
   size = omega arith
 
 pub loop-i-init : goal.loop-i-init
-loop-i-init c = let v = c.before.before.args in let z : 0 ≡ v.n * 0 = omega arith in (omega arith, refl, ap (λ (j : ℕ). take j v.code.now ++ drop j v.out-1.now) z)
+loop-i-init c = let v = c.before.before.args in let z : 0 ≡ v.n * 0 = omega arith in (omega arith, refl, ap (λ (j : ℕ). take j v.code.now ++ drop j v.out.now) z)
 
 pub overflow_mul-at : goal.overflow_mul-at
 overflow_mul-at c = record { fits = omega (arith, ends c, (s c).requires.0) }
@@ -52,19 +52,19 @@ put_block-requires c = let b = c.before.before in simp (length-take, length-drop
 
 -- it stands in its part
 more-is : (c : After-put_block) → let b = c.before.before.before in let v = (s b).args in let j = n b * (i b + 1) in
-    put_mid (n b * i b) (n b * i b + n b - n b * i b) (l b).loop-i.out-1 c.put_block.new.out ≡ take j v.code.now ++ drop j v.out-1.now
+    put_mid (n b * i b) (n b * i b + n b - n b * i b) (l b).loop-i.out c.put_block.new.out ≡ take j v.code.now ++ drop j v.out.now
 more-is c =
     let b = c.before.before.before in let v = (s b).args in let a = n b * i b in let code = v.code.now in let block = take (n b) (drop a code) in
     let next : a + n b ≡ n b * (i b + 1) = omega arith in
-    ap₂ (λ (k : ℕ) (p : List ℕ). put_mid a k (l b).loop-i.out-1 p) (size b) (c.put_block.ensures ∙ ap (λ (k : ℕ). take k (drop a code)) (size b))
+    ap₂ (λ (k : ℕ) (p : List ℕ). put_mid a k (l b).loop-i.out p) (size b) (c.put_block.ensures ∙ ap (λ (k : ℕ). take k (drop a code)) (size b))
     ∙ ap (λ (x : List ℕ). take a x ++ (block ++ drop (n b) (drop a x))) (l b).loop-i.invariant.2
-    ∙ write-in (take a code) block v.out-1.now a (n b) (simp length-take (omega (arith, ends b, (s b).requires.0)))
-    ∙ ap (λ (f : List ℕ). f ++ drop (a + n b) v.out-1.now) (sym (take-add a (n b) code))
-    ∙ ap (λ (j : ℕ). take j code ++ drop j v.out-1.now) next
+    ∙ write-in (take a code) block v.out.now a (n b) (simp length-take (omega (arith, ends b, (s b).requires.0)))
+    ∙ ap (λ (f : List ℕ). f ++ drop (a + n b) v.out.now) (sym (take-add a (n b) code))
+    ∙ ap (λ (j : ℕ). take j code ++ drop j v.out.now) next
 
 pub loop-i-preserved : goal.loop-i-preserved
 loop-i-preserved c = (omega arith, search rules, more-is c.before.before)
 
 pub returns : goal.returns
 returns c = let g = c.before in let v = g.before.before.before.args in let all : g.loop-i.i ≡ v.k = omega arith in
-    g.loop-i.invariant.2 ∙ ap (λ (j : ℕ). take (v.n * j) v.code.now ++ drop (v.n * j) v.out-1.now) all
+    g.loop-i.invariant.2 ∙ ap (λ (j : ℕ). take (v.n * j) v.code.now ++ drop (v.n * j) v.out.now) all

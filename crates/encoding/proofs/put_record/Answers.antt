@@ -17,7 +17,7 @@ use Rattle.refusals.specs.declared.Verdict.{Verdict}
 use Rattle.refusals.specs.declared.Verdict.TheVariants.{Accepted}
 use Rattle.refusals.specs.Answers.{valued, written}
 use Rattle.records.specs.Eight.Codes.{block_size, code_length}
-use Rattle.layers.specs.code-1.{code8}
+use Rattle.layers.specs.Code.{code8}
 use Rattle.encoding.specs.Encode.{check_fits, code_bytes, code_record}
 use Rattle.records.specs.Eight.Vectors.{in_blocks}
 use Rattle.records.specs.Eight.Asked.{used-steps}
@@ -42,7 +42,7 @@ module _ (s : Start) where
   steps = s.args.steps.now
 
   abbrev found : List ℕ
-  found = s.args.out-1.now
+  found = s.args.out.now
 
   abbrev k : ℕ
   k = length X / 8
@@ -71,7 +71,7 @@ module _ (c : After-code_blocks) where
   code = c.code_blocks.new.out
 
   verdict : c.code_blocks.result ≡ check_fits (code8 (q st) (m st)) (steps st) 0 (in_blocks (X st))
-  verdict = c.code_blocks.ensures.0 ∙ ap (λ (z : ℤ). check_fits (code8 (nat_abs z) (m st)) (steps st) 0 (in_blocks (X st))) (to_z-of_z st.ranges.q)
+  verdict = c.code_blocks.ensures.answer ∙ ap (λ (z : ℤ). check_fits (code8 (nat_abs z) (m st)) (steps st) 0 (in_blocks (X st))) (to_z-of_z st.ranges.q)
 
 pub code_blocks-requires : goal.code_blocks-requires
 code_blocks-requires c = let s = c.before.before in
@@ -116,7 +116,7 @@ module _ (c : After-block_size-n) where
   coded : take (n * k t) (code blocks) ≡ bytes t
   coded =
       let z : ℤ = to_z w64 (of_z w64 t.args.q) in let whole : code_bytes (code8 (nat_abs z) (m t)) (steps t) (in_blocks (X t)) ≡ bytes t = ap (λ (z : ℤ). code_bytes (code8 (nat_abs z) (m t)) (steps t) (in_blocks (X t))) (to_z-of_z t.ranges.q) in
-      ap (take (n * k t)) (blocks.code_blocks.ensures.1 told.enum_told-1.given.1)
+      ap (take (n * k t)) (blocks.code_blocks.ensures.room told.enum_told-1.given.1)
       ∙ take_at (code_bytes (code8 (nat_abs z) (m t)) (steps t) (in_blocks (X t))) _ (n * k t) (ap length whole ∙ bytes-are t ∙ sym n-is)
       ∙ whole
 
@@ -182,13 +182,10 @@ overflow_cast-result c = record { sfits = omega (arith, small (g c.before.before
 pub returns-in-Refused : goal.returns-in-Refused
 returns-in-Refused c = let a = c.before.before.before.before.before in let s = st a in
     let r = sym (sym (verdict a) ∙ c.before.before.r-1.given.1) in
-    (c.refused.ensures ∙ ap (λ (v : Verdict). valued v (pos (code_length (m s) (k s)))) r, ap (λ (v : Verdict). written v (code_record (code8 (q s) (m s)) (steps s) (in_blocks (X s))) (found s)) r)
+    record { answer = c.refused.ensures ∙ ap (λ (v : Verdict). valued v (pos (code_length (m s) (k s)))) r; room = ap (λ (v : Verdict). written v (code_record (code8 (q s) (m s)) (steps s) (in_blocks (X s))) (found s)) r }
 
 pub returns-in-Accepted : goal.returns-in-Accepted
 returns-in-Accepted c = let p = c.before.before in let d = g p in let s = t d in
-    let f = code_record (code8 (q s) (m s)) (steps s) (in_blocks (X s)) in let fits : SFits w64 (pos (4 + n d * k s)) = record { sfits = omega (arith, small d) } in (
-      simp (to_z-of_z, fits) (ap₂ (λ (v : Verdict) (j : ℕ). valued v (pos (4 + j))) (sym (accepted d)) (n-is d)),
-      all-is p ∙ ap (λ (j : ℕ). (bytes_of j ++ bytes s) ++ drop (4 + j) (found s)) (n-is d)
+    let f = code_record (code8 (q s) (m s)) (steps s) (in_blocks (X s)) in let fits : SFits w64 (pos (4 + n d * k s)) = record { sfits = omega (arith, small d) } in record { answer = simp (to_z-of_z, fits) (ap₂ (λ (v : Verdict) (j : ℕ). valued v (pos (4 + j))) (sym (accepted d)) (n-is d)); room = all-is p ∙ ap (λ (j : ℕ). (bytes_of j ++ bytes s) ++ drop (4 + j) (found s)) (n-is d)
           ∙ ap₂ (λ (r : List ℕ) (j : ℕ). r ++ drop j (found s)) (sym (record_is s)) (sym (code_record-long (q s) (m s) (steps s) (in_blocks (X s)) ∙ ap (code_length (m s)) (cut-long 8 (k s) (X s))))
-          ∙ ap (λ (v : Verdict). written v f (found s)) (sym (accepted d)),
-    )
+          ∙ ap (λ (v : Verdict). written v f (found s)) (sym (accepted d)) }

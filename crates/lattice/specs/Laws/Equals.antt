@@ -1,6 +1,6 @@
 -- Block B's point is chosen among sixteen equals.
 use Rattle.std.specs.Prelude.{◌≡◌, refl, ◌⊎◌, Bool, true, not, ◌&&◌, List, [], ◌∷◌, map, ℕ, zero, suc, ◌+◌, ◌*◌, ◌<◌, ◌≤◌, ℤ, pos, negsuc, nat_abs, ◌+ℤ◌, ◌-ℤ◌, ◌*ℤ◌, length, replicate}
-use Rattle.std.proofs.Common.{sym, ◌∙◌, ap, ap₂, inl, inr, ⊎_elim, arith}
+use Rattle.std.proofs.Common.{sym, ◌∙◌, ap, ap₂, inl, inr, ⊎_elim, arith, subst}
 use Rattle.std.proofs.Math.Nat.{suc_inj}
 use Rattle.integers.specs.Laws.Difference.{by_d, ints, by_d₂, by_d₃}
 use Rattle.integers.specs.Vectors.{square, zeros}
@@ -83,7 +83,7 @@ four-off (x ∷ d) (y ∷ e) h v k =
     let c = cost-natural (pos 1) d e in go c.0 c.1 (four-left (x -ℤ pos 1 *ℤ y) c.0 v.0 (ap (λ (z : ℤ). square (x -ℤ pos 1 *ℤ y) +ℤ z) (sym c.1) ∙ k)) (four-off d e (suc_inj h) v.1)
   where
     go : (m : ℕ) → cost (pos 1) d e ≡ pos m → Left (x -ℤ pos 1 *ℤ y) m → (cost (pos 1) d e ≡ pos 4 → Among e (neighbours d)) → Among (y ∷ e) (neighbours (x ∷ d))
-    go m q (same a b) f = inr (inr (rw (other (pos 0) x y a ∙ less_none x) (among-map x e (neighbours d) (f (q ∙ ap pos b)))))
+    go m q (same a b) f = inr (inr (subst (λ (z : ℤ). Among (z ∷ e) (map (λ (f : List ℤ). x ∷ f) (neighbours d))) (sym (other (pos 0) x y a ∙ less_none x)) (among-map x e (neighbours d) (f (q ∙ ap pos b)))))
     go m q (above a b) f = inr (inl (ap₂ ◌∷◌ (other (pos 2) x y a) (none-off d e (suc_inj h) (q ∙ ap pos b))))
     go m q (below a b) f = inl (ap₂ ◌∷◌ (other (negsuc 1) x y a) (none-off d e (suc_inj h) (q ∙ ap pos b)))
 

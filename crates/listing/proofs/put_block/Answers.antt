@@ -36,7 +36,7 @@ module _ (s : Start) where
   code = s.args.code.now
 
   abbrev o : List ℕ
-  o = s.args.out-1.now
+  o = s.args.out.now
 
   abbrev one : List ℕ
   one = step_line q m steps s.requires.0 code s.requires.1
@@ -73,7 +73,7 @@ module _ (k : After-step_of) where
   a = k.before.before.before.before
 
   numbers : to_z w64 (get_or (code a) 0 0) ∷ to_z w64 (of_z w64 k.step_of_lem.result) ∷ [] ≡ pos (get_or (code a) 0 0) ∷ step_of (steps a) (code a) ∷ []
-  numbers = let f : SFits w64 k.step_of_lem.result = record { sfits = k.step_of_lem.ok } in
+  numbers = let f : SFits w64 k.step_of_lem.result = record { sfits = k.step_of_lem.type_inv } in
       ap₂ (λ (t s : ℤ). t ∷ s ∷ []) (to_z_pos w64 (omega (arith, k.before.shared_slice_known-2-1.given 0))) (to_z-of_z f ∙ k.step_of_lem.ensures)
 
 pub put_line-from-requires : goal.put_line-from-requires
@@ -92,10 +92,10 @@ module _ (p : After-put_line-from) where
   room1 = p.put_line-from.new.out
 
   room1-is : room1 ≡ sets (o b) 0 (one b)
-  room1-is = p.put_line-from.ensures.1 ∙ ap (λ (l : List ℤ). sets (o b) 0 (line (bytes "step") l)) (numbers k)
+  room1-is = p.put_line-from.ensures.room ∙ ap (λ (l : List ℤ). sets (o b) 0 (line (bytes "step") l)) (numbers k)
 
   from_is : p.put_line-from.result ≡ 0 + length (one b)
-  from_is = p.put_line-from.ensures.0 ∙ ap (λ (l : List ℤ). 0 + length (line (bytes "step") l)) (numbers k)
+  from_is = p.put_line-from.ensures.answer ∙ ap (λ (l : List ℤ). 0 + length (line (bytes "step") l)) (numbers k)
 
   room1-long : length room1 ≡ length (o b)
   room1-long = ap length room1-is ∙ length-sets (o b) 0 (one b)
@@ -116,10 +116,10 @@ module _ (l : After-put_layers-to) where
   room2 = l.put_layers-to.new.out
 
   room2-is : room2 ≡ sets (room1 p) p.put_line-from.result (two (b p))
-  room2-is = l.put_layers-to.ensures.1 ∙ ap (λ (f : List ℕ). sets (room1 p) p.put_line-from.result (layer_lines 0 (cut 8 (m (b p)) f))) (lent (b p))
+  room2-is = l.put_layers-to.ensures.room ∙ ap (λ (f : List ℕ). sets (room1 p) p.put_line-from.result (layer_lines 0 (cut 8 (m (b p)) f))) (lent (b p))
 
   to_is : l.put_layers-to.result ≡ p.put_line-from.result + length (two (b p))
-  to_is = l.put_layers-to.ensures.0 ∙ ap (λ (f : List ℕ). p.put_line-from.result + length (layer_lines 0 (cut 8 (m (b p)) f))) (lent (b p))
+  to_is = l.put_layers-to.ensures.answer ∙ ap (λ (f : List ℕ). p.put_line-from.result + length (layer_lines 0 (cut 8 (m (b p)) f))) (lent (b p))
 
   room2-long : length room2 ≡ length (o (b p))
   room2-long = ap length room2-is ∙ length-sets (room1 p) p.put_line-from.result (two (b p)) ∙ room1-long p
@@ -154,14 +154,11 @@ put_line-requires c = let d = c.before.before.before in let s = st d in
     (point-small (q s) (m s) (steps s) s.requires.0 (code s) s.requires.1, omega (arith, to_is (l d), from_is (p (l d)), room2-long (l d), roomy s))
 
 pub shape_of-out : goal.shape_of-out
-shape_of-out c = let f = c.before.before in let d = f.before.before.before.before in ap length f.put_line.ensures.1 ∙ length-sets (room2 (l d)) (l d).put_layers-to.result (line (bytes "point") d.decode_one-e.result) ∙ room2-long (l d)
+shape_of-out c = let f = c.before.before in let d = f.before.before.before.before in ap length f.put_line.ensures.room ∙ length-sets (room2 (l d)) (l d).put_layers-to.result (line (bytes "point") d.decode_one-e.result) ∙ room2-long (l d)
 
 pub returns : goal.returns
 returns c =
     let f = c.before.before in let d = f.before.before.before.before in let v = l d in let u = p v in let s = st d in
-    let point = ap (λ (e : List ℤ). line (bytes "point") e) (point-is d) in (
-      f.put_line.ensures.0 ∙ omega (arith, ap length point, to_is v, from_is u, listing-long (q s) (m s) (steps s) s.requires.0 (code s) s.requires.1),
-      f.put_line.ensures.1 ∙ ap (sets (room2 v) v.put_layers-to.result) point
+    let point = ap (λ (e : List ℤ). line (bytes "point") e) (point-is d) in record { answer = f.put_line.ensures.answer ∙ omega (arith, ap length point, to_is v, from_is u, listing-long (q s) (m s) (steps s) s.requires.0 (code s) s.requires.1); room = f.put_line.ensures.room ∙ ap (sets (room2 v) v.put_layers-to.result) point
           ∙ sym (ap (sets (o s) 0) (listing-is (q s) (m s) (steps s) s.requires.0 (code s) s.requires.1) ∙ put_next (o s) 0 (one s) (two s ++ three s) (room1 u) _ (room1-is u) (from_is u)
-          ∙ put_next (room1 u) u.put_line-from.result (two s) (three s) (room2 v) _ (room2-is v) (to_is v)),
-    )
+          ∙ put_next (room1 u) u.put_line-from.result (two s) (three s) (room2 v) _ (room2-is v) (to_is v)) }

@@ -42,12 +42,9 @@ slice-aggregate-put-line-2 : tie.Need-slice-aggregate-put-line-2
 slice-aggregate-put-line-2 c = search rules
 
 pub put_line-requires : goal.put_line-requires
-put_line-requires c = let p = c.before.before.before in let out = (s p).args.out-1.now in
+put_line-requires c = let p = c.before.before.before in let out = (s p).args.out.now in
     subst (λ (l : List ℤ). Small l × (0 + length (line (bytes "refused") l) ≤ length out)) (sym (numbers p))
     (refusal-small (r p) (s p).requires.0, omega (arith, refusal-most (r p) (s p).requires.0, (s p).requires.1))
 
 pub returns : goal.returns
-returns c = let k = c.before.before in let p = k.before.before.before.before in let out = (s p).args.out-1.now in (
-  k.put_line.ensures.0 ∙ ap (λ (l : List ℤ). 0 + length (line (bytes "refused") l)) (numbers p) ∙ omega arith,
-  k.put_line.ensures.1 ∙ ap (λ (l : List ℤ). sets out 0 (line (bytes "refused") l)) (numbers p),
-)
+returns c = let k = c.before.before in let p = k.before.before.before.before in let out = (s p).args.out.now in record { answer = k.put_line.ensures.answer ∙ ap (λ (l : List ℤ). 0 + length (line (bytes "refused") l)) (numbers p) ∙ omega arith; room = k.put_line.ensures.room ∙ ap (λ (l : List ℤ). sets out 0 (line (bytes "refused") l)) (numbers p) }

@@ -29,7 +29,7 @@ module _ (r : After-read_text) where
   t = s.args.given.now
 
   abbrev out : List ℕ
-  out = s.args.out-1.now
+  out = s.args.out.now
 
   fitted : length (shown t) ≤ length out
   fitted = omega (arith, shown-most t, s.requires)
@@ -49,13 +49,13 @@ module _ (k : In-Block-2) where
   X = numbers (line_of (t r) 2)
 
   told : (well_formed (t r) ≡ true) × (settings_in (line_of (t r) 0) ≡ k.s-1.given.0.0) × (length steps ≡ k.s-1.given.0.1.0)
-  told = told-block (t r) _ _ (sym r.read_text.ensures.0 ∙ k.s-1.given.1)
+  told = told-block (t r) _ _ (sym r.read_text.ensures.answer ∙ k.s-1.given.1)
 
   counts : (length steps ≤ 2048) × (length X ≡ 8)
   counts = formed-counts (t r) told.0
 
   rooms : (r.read_text.new.steps ≡ sets (zeros 2048) 0 steps) × (r.read_text.new.x ≡ sets (zeros 2048) 0 X)
-  rooms = r.read_text.ensures.1 told.0
+  rooms = r.read_text.ensures.room told.0
 
   -- the steps and X as they are lent
   steps-are : take (k.s-1.given.0.1.0 - 0) r.read_text.new.steps ≡ steps
@@ -73,12 +73,12 @@ show_block-requires c = let k = c.before.before.before.before.before.before in (
 pub returns-in-Malformed : goal.returns-in-Malformed
 returns-in-Malformed c =
     let p = c.before.before in let e = p.before.before in let v = e.before.before.before.before in
-    let same = text-malformed (t v) (told-malformed (t v) (sym v.read_text.ensures.0 ∙ e.enum_told-1.given.1)) in
-    (p.put_refusal.ensures.0 ∙ ap length same, p.put_refusal.ensures.1 ∙ ap (sets (out v) 0) same ∙ sets-front (out v) (shown (t v)) (fitted v))
+    let same = text-malformed (t v) (told-malformed (t v) (sym v.read_text.ensures.answer ∙ e.enum_told-1.given.1)) in
+    record { answer = p.put_refusal.ensures.answer ∙ ap length same; room = p.put_refusal.ensures.room ∙ ap (sets (out v) 0) same ∙ sets-front (out v) (shown (t v)) (fitted v) }
 
 pub returns-in-Block : goal.returns-in-Block
 returns-in-Block c =
     let p = c.before.before in let k = p.before.before.before.before.before.before.before in let v = r k in
     let same : block_shown k.s-1.given.0.0 (take (k.s-1.given.0.1.0 - 0) v.read_text.new.steps) (take 8 v.read_text.new.x) ≡ shown (t v)
     = ap₂ (block_shown k.s-1.given.0.0) (steps-are k) (X-is k) ∙ ap (λ (c : Settings). block_shown c (steps k) (X k)) (sym (told k).1) ∙ text-formed (t v) (told k).0 in
-    (p.show_block.ensures.0 ∙ ap length same, p.show_block.ensures.1 ∙ ap (sets (out v) 0) same ∙ sets-front (out v) (shown (t v)) (fitted v))
+    record { answer = p.show_block.ensures.answer ∙ ap length same; room = p.show_block.ensures.room ∙ ap (sets (out v) 0) same ∙ sets-front (out v) (shown (t v)) (fitted v) }

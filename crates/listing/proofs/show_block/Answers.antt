@@ -11,7 +11,7 @@ use mir.Syntax.{w64}
 use mir.Val.{SFits, to_z, of_z}
 use mir.Facts.{to_z-of_z}
 use Rattle.blocks.specs.Trials.{block_code}
-use Rattle.layers-m.specs.E8.{e8, nearest}
+use Rattle.layers.specs.E8.{e8, nearest}
 use Rattle.refusals.specs.declared.settings.Settings.{Settings}
 use Rattle.refusals.specs.declared.Verdict.TheVariants.{Accepted}
 use Rattle.records.specs.Eight.Codes.{Coder, IsBlock, block_size}
@@ -37,11 +37,11 @@ module _ (e : After-encode_units-a) where
   X = s.args.x.now
 
   abbrev out : List ℕ
-  out = s.args.out-1.now
+  out = s.args.out.now
 
   verdict-is : e.encode_units-a.result.verdict ≡ check_shown chosen steps X
   unfolding check_shown
-  verdict-is = ap (λ a. a.verdict) e.encode_units-a.ensures.0 ∙ encoded-verdict chosen steps (units_hour X) 37
+  verdict-is = ap (λ a. a.verdict) e.encode_units-a.ensures.answer ∙ encoded-verdict chosen steps (units_hour X) 37
 
 pub put_refusal-requires : goal.put_refusal-requires
 put_refusal-requires c = let v = c.before.before in let e = v.before.before.before in
@@ -86,7 +86,7 @@ module _ (k : After-base) where
   m = nat_abs (chosen (e told)).m
 
   fits : SFits w64 k.base.result
-  fits = record { sfits = k.base.ok }
+  fits = record { sfits = k.base.type_inv }
 
   q-is : to_z w64 (of_z w64 k.base.result) ≡ (chosen (e told)).q
   q-is = to_z-of_z fits ∙ k.base.ensures
@@ -103,7 +103,7 @@ module _ (k : After-base) where
   -- the bytes that are lent are the block's
   code_is : take (4 + k.before.block_size-end.result - 4) (drop 4 room) ≡ code
   code_is = let n : 4 + k.before.block_size-end.result - 4 ≡ block_size m = omega (arith, size_is k.before) in
-      ap₂ (λ (n : ℕ) (f : List ℕ). take n (drop 4 f)) n (e told).encode_units-a.ensures.1 ∙ shown-code (chosen (e told)) (steps (e told)) (X (e told)) (s (e told)).requires.0 (accepted told)
+      ap₂ (λ (n : ℕ) (f : List ℕ). take n (drop 4 f)) n (e told).encode_units-a.ensures.room ∙ shown-code (chosen (e told)) (steps (e told)) (X (e told)) (s (e told)).requires.0 (accepted told)
 
 pub slice_bounds-put_block-end : goal.slice_bounds-put_block-end
 slice_bounds-put_block-end c = let k = c.before in omega (arith, size_is k.before, (taken (told k)).allowed.m-most, (told k).before.before.code-2-1.given)
@@ -120,7 +120,7 @@ pub returns-in-Refused : goal.returns-in-Refused
 returns-in-Refused c =
     let p = c.before.before in let v = p.before.before.before in let f = v.before.before.before in
     let shown = block_refused (chosen f) (steps f) (X f) _ (sym (verdict-is f) ∙ v.v-1.given.1) in
-    (p.put_refusal.ensures.0 ∙ ap length shown, p.put_refusal.ensures.1 ∙ ap (sets (out f) 0) shown)
+    record { answer = p.put_refusal.ensures.answer ∙ ap length shown; room = p.put_refusal.ensures.room ∙ ap (sets (out f) 0) shown }
 
 pub returns-in-Accepted : goal.returns-in-Accepted
 returns-in-Accepted c =
@@ -128,4 +128,4 @@ returns-in-Accepted c =
     let shown : block_listing (nat_abs (to_z w64 (of_z w64 k.base.result))) k.before.before.layers-m.result (steps v) (take (4 + k.before.block_size-end.result - 4) (drop 4 (room k))) ≡ block_shown (chosen v) (steps v) (X v)
     = ap₂ (λ (q : ℤ) (m : ℕ). block_listing (nat_abs q) m (steps v) (take (4 + k.before.block_size-end.result - 4) (drop 4 (room k)))) (q-is k) (m-is k)
     ∙ ap (block_listing (nat_abs (chosen v).q) (m k) (steps v)) (code_is k) ∙ block-accepted (chosen v) (steps v) (X v) (accepted (told k)) in
-    (p.put_block.ensures.0 ∙ ap length shown, p.put_block.ensures.1 ∙ ap (sets (out v) 0) shown)
+    record { answer = p.put_block.ensures.answer ∙ ap length shown; room = p.put_block.ensures.room ∙ ap (sets (out v) 0) shown }

@@ -12,9 +12,7 @@ use Rattle.integers.specs.Laws.Loops.{Filled, filled_more, filled-all}
 use Rattle.integers.specs.Vectors.{«at»}
 use Rattle.points.proofs.column.Goals as goal
 use Rattle.points.proofs.column.Goals.{After-r-1, At-loop-j}
-
-abbrev entry : ℕ → List ℤ → ℤ
-entry t row = «at» row t
+use Rattle.points.proofs.column.Invariants.{entry}
 
 -- the entry that is copied
 module _ (c : After-r-1) where

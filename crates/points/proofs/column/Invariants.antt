@@ -12,6 +12,9 @@ use Rattle.integers.specs.Laws.Loops.{Filled, filled_more, filled-all}
 use Rattle.integers.specs.Vectors.{«at»}
 use Rattle.points.proofs.column.Given as goal
 
+abbrev pub entry : ℕ → List ℤ → ℤ
+entry t row = «at» row t
+
 abbrev pub invariant-loop-j : goal.invariant-loop-j
 invariant-loop-j l = Filled (entry l.t) 8 l.e l.j l.r
 

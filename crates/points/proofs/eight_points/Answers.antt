@@ -10,7 +10,7 @@ use mir.Val.{to_z, of_z}
 use mir.Facts.{to_z-of_z}
 use Rattle.columns.specs.Columns.{PointColumns}
 use Rattle.points.specs.Lanes.{Taken, LanePoints}
-use Rattle.points.specs.Laws.folded.{taken-layers, all-foldable, all-points}
+use Rattle.points.specs.Laws.Folded.{taken-layers, all-foldable, all-points}
 use Rattle.points.specs.Laws.LanePoints.{all-layers, lanes-none, lanes-summable, lanes-more}
 use Rattle.points.proofs.eight_points.Goals as goal
 use Rattle.points.proofs.eight_points.Goals.{After-layer_points-l, After-taken-c, In-loop-i, Start}
@@ -38,8 +38,8 @@ module _ (l : In-loop-i) where
   within : j < m
   within = omega arith
 
-  above : LanePoints (nat_abs q) m n (suc j) f l.before.loop-i.e-1
-  above = let next : l.before.loop-i.i ≡ suc j = omega arith in subst (λ (k : ℕ). LanePoints (nat_abs q) m n k f l.before.loop-i.e-1) next (simp (to_z-of_z, s.ranges.q) at l.before.loop-i.invariant.1)
+  above : LanePoints (nat_abs q) m n (suc j) f l.before.loop-i.e
+  above = let next : l.before.loop-i.i ≡ suc j = omega arith in subst (λ (k : ℕ). LanePoints (nat_abs q) m n k f l.before.loop-i.e) next (simp (to_z-of_z, s.ranges.q) at l.before.loop-i.invariant.1)
 
 module _ (c : After-taken-c) where
   abbrev l : In-loop-i
@@ -78,7 +78,7 @@ returns-then-n-m-le8 c = let t = c.before.before in let k = t.before in let g = 
 
 pub rows_plus_times-e-requires : goal.rows_plus_times-e-requires
 rows_plus_times-e-requires c = let o = c.before.before in let k = o.before in let g = g k in let l = l g in let p = (s l).requires in
-    simp (to_z-of_z, (s l).ranges.q) (lanes-summable (q l) (m l) (n l) (f l) p.0 p.1 (j l) (within l) g.taken-c.result ((layers-are g).one (omega (arith, o.if-n-m-le8.false))) k.layer_points-l.result l.before.loop-i.e-1 (points-are k) (above l))
+    simp (to_z-of_z, (s l).ranges.q) (lanes-summable (q l) (m l) (n l) (f l) p.0 p.1 (j l) (within l) g.taken-c.result ((layers-are g).one (omega (arith, o.if-n-m-le8.false))) k.layer_points-l.result l.before.loop-i.e (points-are k) (above l))
 
 pub loop-i-smaller : goal.loop-i-smaller
 loop-i-smaller c = let l = l (g c.before.before.before.before) in omega (arith, l.loop-i-test.taken-c)
@@ -86,10 +86,10 @@ loop-i-smaller c = let l = l (g c.before.before.before.before) in omega (arith, 
 pub loop-i-preserved : goal.loop-i-preserved
 loop-i-preserved c = let o = c.before.before.before in let k = o.before in let g = g k in let l = l g in let p = (s l).requires in (
   omega (arith, within l),
-  simp (to_z-of_z, (s l).ranges.q) (lanes-more (q l) (m l) (n l) (f l) p.0 p.1 (j l) (within l) g.taken-c.result ((layers-are g).one (omega (arith, o.if-n-m-le8.false))) k.layer_points-l.result l.before.loop-i.e-1 (points-are k) (above l)
+  simp (to_z-of_z, (s l).ranges.q) (lanes-more (q l) (m l) (n l) (f l) p.0 p.1 (j l) (within l) g.taken-c.result ((layers-are g).one (omega (arith, o.if-n-m-le8.false))) k.layer_points-l.result l.before.loop-i.e (points-are k) (above l)
       c.rows_plus_times-e.result (simp (to_z-of_z, (s l).ranges.q) at c.rows_plus_times-e.ensures)),
 )
 
 pub returns : goal.returns
 returns c = let l = c.before in let s = l.before.before in let a = s.args in let e : l.loop-i.i ≡ 0 = omega arith in
-    all-layers (nat_abs a.q) a.m a.n a.body.now l.loop-i.e-1 s.requires.2 (subst (λ (k : ℕ). LanePoints (nat_abs a.q) a.m a.n k a.body.now l.loop-i.e-1) e (simp (to_z-of_z, s.ranges.q) at l.loop-i.invariant.1))
+    all-layers (nat_abs a.q) a.m a.n a.body.now l.loop-i.e s.requires.2 (subst (λ (k : ℕ). LanePoints (nat_abs a.q) a.m a.n k a.body.now l.loop-i.e) e (simp (to_z-of_z, s.ranges.q) at l.loop-i.invariant.1))

@@ -10,7 +10,7 @@ use mir.Val.{to_z, of_z}
 use mir.Facts.{to_z-of_z}
 use Rattle.columns.specs.Columns.{PointColumns}
 use Rattle.points.specs.Lanes.{Taken, LanePoints}
-use Rattle.points.specs.Laws.folded.{taken-layers, all-foldable, all-points}
+use Rattle.points.specs.Laws.Folded.{taken-layers, all-foldable, all-points}
 use Rattle.points.specs.Laws.LanePoints.{all-layers, lanes-none, lanes-summable, lanes-more}
 use Rattle.points.proofs.eight_points.Given as goal
 

@@ -9,10 +9,7 @@ use Rattle.points.specs.Laws.Lanes.{Laid, layer_at, laid_none, laid_more, laid-g
 use Rattle.records.specs.Laws.Parts.{part-ends}
 use Rattle.points.proofs.gathered.Goals as goal
 use Rattle.points.proofs.gathered.Goals.{After-block_size-size, In-loop-b, Start}
-
--- the layer i of block b
-abbrev layer : List ℕ → ℕ → ℕ → ℕ → List ℕ
-layer f m i b = layer_at m f b i
+use Rattle.points.proofs.gathered.Invariants.{layer}
 
 -- block b
 module _ (c : In-loop-b) where
@@ -81,4 +78,4 @@ loop-b-preserved c = let p = c.before.before in (omega (arith, p.loop-b-test.tru
 
 pub returns : goal.returns
 returns c = let l = c.before in let s = l.before.before.before in let a = s.args in let e : l.loop-b.b ≡ a.n = omega arith in
-    laid-gathered a.m a.n a.body.now a.i s.requires.1 (subst (λ (b : ℕ). Laid (layer a.body.now a.m a.i) b l.loop-b.c-1) e l.loop-b.invariant.1)
+    laid-gathered a.m a.n a.body.now a.i s.requires.1 (subst (λ (b : ℕ). Laid (layer a.body.now a.m a.i) b l.loop-b.c) e l.loop-b.invariant.1)

@@ -9,6 +9,10 @@ use Rattle.points.specs.Laws.Lanes.{Laid, layer_at, laid_none, laid_more, laid-g
 use Rattle.records.specs.Laws.Parts.{part-ends}
 use Rattle.points.proofs.gathered.Given as goal
 
+-- the layer i of block b
+abbrev pub layer : List ℕ → ℕ → ℕ → ℕ → List ℕ
+layer f m i b = layer_at m f b i
+
 abbrev pub invariant-loop-b : goal.invariant-loop-b
 invariant-loop-b l = (l.b ≤ l.n) × Laid (layer l.body l.m l.i) l.b l.c
 

@@ -66,7 +66,7 @@ loop-b-init c = let a = c.before.before.args in let z : 0 ≡ a.m * 0 = omega ar
 
 pub loop-i-init : goal.loop-i-init
 loop-i-init c = let l = c.before in let a = l.before.before.before.args in let z : a.m * l.loop-b.b ≡ a.m * l.loop-b.b + 0 = omega arith in
-    (omega arith, subst (λ (t : ℕ). Laid (layer_of a.m a.body.now) t l.loop-b.c-1) z l.loop-b.invariant.1)
+    (omega arith, subst (λ (t : ℕ). Laid (layer_of a.m a.body.now) t l.loop-b.c) z l.loop-b.invariant.1)
 
 pub overflow_mul-t : goal.overflow_mul-t
 overflow_mul-t c = omega (arith, within c)
@@ -107,8 +107,8 @@ loop-b-smaller c = let o = c.before.before in omega (arith, o.loop-b-test.true)
 
 pub loop-b-preserved : goal.loop-b-preserved
 loop-b-preserved c = let o = c.before.before in let a = o.before.before.before.before.args in let b = o.before.loop-b.b in let next : a.m * b + c.before.loop-i.i ≡ a.m * (b + 1) = omega (arith, c.before.loop-i.invariant.0) in
-    (omega (arith, o.loop-b-test.true), subst (λ (t : ℕ). Laid (layer_of a.m a.body.now) t c.before.loop-i.c-1) next c.before.loop-i.invariant.1)
+    (omega (arith, o.loop-b-test.true), subst (λ (t : ℕ). Laid (layer_of a.m a.body.now) t c.before.loop-i.c) next c.before.loop-i.invariant.1)
 
 pub returns : goal.returns
 returns c = let l = c.before in let a = l.before.before.before.args in let e : l.loop-b.b ≡ a.n = omega arith in
-    laid-all a.m a.n a.body.now (subst (λ (b : ℕ). Laid (layer_of a.m a.body.now) (a.m * b) l.loop-b.c-1) e l.loop-b.invariant.1)
+    laid-all a.m a.n a.body.now (subst (λ (b : ℕ). Laid (layer_of a.m a.body.now) (a.m * b) l.loop-b.c) e l.loop-b.invariant.1)

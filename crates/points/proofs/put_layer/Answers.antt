@@ -7,10 +7,7 @@ use lib.ListN.{length, get_or, take, drop, length-take, length-drop}
 use lib.Seq.{get_or-take, get_or-drop}
 use Rattle.points.specs.Laws.Lanes.{Putting, putting-none, putting-more, putting-all}
 use Rattle.points.proofs.put_layer.Goals as goal
-
--- the digits from a on
-abbrev part : List ℕ → ℕ → List ℕ
-part f a = take 8 (drop a f)
+use Rattle.points.proofs.put_layer.Invariants.{part}
 
 part-long : (f : List ℕ) (a : ℕ) → a + 8 ≤ length f → length (part f a) ≡ 8
 part-long f a h = simp (length-take, length-drop) (omega arith)

@@ -8,6 +8,10 @@ use lib.Seq.{get_or-take, get_or-drop}
 use Rattle.points.specs.Laws.Lanes.{Putting, putting-none, putting-more, putting-all}
 use Rattle.points.proofs.put_layer.Given as goal
 
+-- the digits from a on
+abbrev pub part : List ℕ → ℕ → List ℕ
+part f a = take 8 (drop a f)
+
 abbrev pub invariant-loop-j : goal.invariant-loop-j
 invariant-loop-j l = (l.j ≤ 8) × Putting l.t (part l.body l.a) l.initial.c l.j l.c
 

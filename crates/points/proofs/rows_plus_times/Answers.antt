@@ -12,10 +12,7 @@ use Rattle.integers.specs.Vectors.{add_v, scale_v}
 use Rattle.points.specs.Laws.Lanes.{each_more}
 use Rattle.points.proofs.rows_plus_times.Goals as goal
 use Rattle.points.proofs.rows_plus_times.Goals.{After-plus_times, At-loop-j, In-loop-j, Start}
-
--- the row t of the sum
-abbrev sum : ℤ → List (List ℤ) → List (List ℤ) → ℕ → List ℤ
-sum q l e t = add_v (get_or l t []) (scale_v q (get_or e t []))
+use Rattle.points.proofs.rows_plus_times.Invariants.{sum}
 
 -- the row j
 module _ (c : After-plus_times) where

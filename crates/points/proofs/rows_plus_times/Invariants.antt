@@ -12,6 +12,10 @@ use Rattle.integers.specs.Vectors.{add_v, scale_v}
 use Rattle.points.specs.Laws.Lanes.{each_more}
 use Rattle.points.proofs.rows_plus_times.Given as goal
 
+-- the row t of the sum
+abbrev pub sum : ℤ → List (List ℤ) → List (List ℤ) → ℕ → List ℤ
+sum q l e t = add_v (get_or l t []) (scale_v q (get_or e t []))
+
 abbrev pub invariant-loop-j : goal.invariant-loop-j
 invariant-loop-j l = (l.j ≤ 8) × (length l.r ≡ 8) × ((t : ℕ) → t < l.j → get_or l.r t [] ≡ sum l.l.q l.l l.e t)
 

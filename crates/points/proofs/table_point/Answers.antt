@@ -44,7 +44,7 @@ module _ (l : In-loop-i) where
   abbrev above : List ℤ
   above = decode8 2 (m - suc j) (drop (8 * suc j) ds)
 
-  above-is : l.before.loop-i.e-1 ≡ above
+  above-is : l.before.loop-i.e ≡ above
   above-is = l.before.loop-i.invariant.1 ∙ ap (λ (k : ℕ). decode8 2 (m - k) (drop (8 * k) ds)) (sym next)
 
   is-layer : IsLayer 8 2 layer

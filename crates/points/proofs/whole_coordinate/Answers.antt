@@ -40,7 +40,7 @@ module _ (c : In-loop-i) where
   x = «at» l (t + j)
 
   abbrev z : ℤ
-  z = to_z w16 c.before.loop-i.z-1
+  z = to_z w16 c.before.loop-i.z-bits
 
   above-is : z ≡ whole_coordinate q (m - suc j) (t + suc j) l
   above-is = let next : c.before.loop-i.i ≡ suc j = omega arith in

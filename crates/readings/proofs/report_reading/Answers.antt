@@ -12,7 +12,7 @@ abbrev reading : Float → Float → Float → Reading
 reading x y z = record { taken = x; decoded = y; difference = z }
 
 pub units_value-taken-requires : goal.units_value-taken-requires
-units_value-taken-requires start κs = simp (to_z-of_z, start.ranges.x) start.requires.taken
+units_value-taken-requires start = simp (to_z-of_z, start.ranges.x) start.requires.taken
 
 pub decoded_value-decoded-requires : goal.decoded_value-decoded-requires
 decoded_value-decoded-requires c = let start = c.before in simp (to_z-of_z, start.ranges.s, start.ranges.e) start.requires.decoded

@@ -19,7 +19,7 @@ use Rattle.layers.specs.E8.{e8, nearest, decode8}
 use Rattle.refusals.specs.declared.Verdict.{Verdict}
 use Rattle.refusals.specs.declared.Verdict.TheVariants.{Accepted}
 use Rattle.records.specs.Eight.Codes.{step_of, whole_point}
-use Rattle.layers.specs.code-1.{code8}
+use Rattle.layers.specs.Code.{code8}
 use Rattle.encoding.specs.Laws.Encode.{fits_next, fits-none}
 use Rattle.records.specs.Eight.Asked.{used-steps}
 use Rattle.reports.specs.Laws.Report.{block-code, block-reportable}
@@ -78,7 +78,7 @@ module _ (c : After-code_block-t) where
   size = c.before.before.block_size-size.result
 
   t-is : c.code_block-t.result ≡ first_fitting e8 nearest (q s) (m s) (steps s) (x s)
-  t-is = c.code_block-t.ensures.0 ∙ ap (λ (q : ℕ). first_fitting e8 nearest q (m s) (steps s) (x s)) (q-is s)
+  t-is = c.code_block-t.ensures.answer ∙ ap (λ (q : ℕ). first_fitting e8 nearest q (m s) (steps s) (x s)) (q-is s)
 
   abbrev part : List ℕ
   part = c.code_block-t.new.out
@@ -89,7 +89,7 @@ module _ (c : After-code_block-t) where
   -- where a step fits they are the block's
   part-is : first_fitting e8 nearest (q s) (m s) (steps s) (x s) < length (steps s) → part ≡ code
   part-is h = let lent = take (size - 0) (drop 0 fresh) in
-      c.code_block-t.ensures.1 ∙ ap (λ (q : ℕ). tried_room e8 nearest q (m s) 0 (steps s) (x s) lent) (q-is s) ∙ tried-block8 s.args.q (m s) (steps s) (x s) s.requires.1.base (used-steps (steps s) s.requires.1.listed) s.requires.0 h lent
+      c.code_block-t.ensures.room ∙ ap (λ (q : ℕ). tried_room e8 nearest q (m s) 0 (steps s) (x s) lent) (q-is s) ∙ tried-block8 s.args.q (m s) (steps s) (x s) s.requires.1.base (used-steps (steps s) s.requires.1.listed) s.requires.0 h lent
 
 pub returns-then-t-steps : goal.returns-then-t-steps
 returns-then-t-steps c = let k = c.before.before.before in let b = s k in

@@ -15,9 +15,7 @@ use Rattle.readings.specs.declared.Reading.{Reading}
 use Rattle.readings.specs.Report.{report_reading}
 use Rattle.reports.proofs.report_readings.Goals as goal
 use Rattle.reports.proofs.report_readings.Goals.{After-report_reading-arg-in-loop-i-1, At-loop-i, Start}
-
-abbrev reports : List ℤ → ℤ → List ℤ → ℕ → Reading
-reports x s e i = report_reading («at» x i) s («at» e i)
+use Rattle.reports.proofs.report_readings.Invariants.{reports}
 
 pub loop-i-init : goal.loop-i-init
 loop-i-init c = record { within = omega arith; long = ap length c.no_readings-r.ensures; same = refl }

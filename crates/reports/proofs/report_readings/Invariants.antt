@@ -15,6 +15,9 @@ use Rattle.readings.specs.declared.Reading.{Reading}
 use Rattle.readings.specs.Report.{report_reading}
 use Rattle.reports.proofs.report_readings.Given as goal
 
+abbrev pub reports : List ℤ → ℤ → List ℤ → ℕ → Reading
+reports x s e i = report_reading («at» x i) s («at» e i)
+
 abbrev pub invariant-loop-i : goal.invariant-loop-i
 invariant-loop-i l = Filled (reports l.x l.s l.e) 8 (range 0 8) l.i l.r
 

@@ -65,10 +65,10 @@ pub returns-in-Refused : goal.returns-in-Refused
 unfolding nearest
 returns-in-Refused c = let n = c.before.before.before.before in let s = n.before.args.s in let d = n.before.args.d.now in
     let v = sym (judged n) ∙ c.before.before.r-1.given.1 in
-    (c.refused.ensures ∙ ap (λ (w : Verdict). answered w (nearest_point s d)) (sym v), λ h. refused-never (ap (λ (a : PointAnswer). a.verdict) (sym c.refused.ensures) ∙ h))
+    record { answer = c.refused.ensures ∙ ap (λ (w : Verdict). answered w (nearest_point s d)) (sym v); closest = λ h. refused-never (ap (λ (a : PointAnswer). a.verdict) (sym c.refused.ensures) ∙ h) }
 
 pub returns-in-Accepted : goal.returns-in-Accepted
 unfolding nearest
 returns-in-Accepted c = let n = c.before.before in let s = (b n.before).args.s in let d = (b n.before).args.d.now in let a = asked (told n.before) in
     let e : c.narrow.result ≡ nearest_point s d = c.narrow.ensures ∙ found n in
-    (rw e (ap (λ (w : Verdict). answered w (nearest_point s d)) (sym (accepted (told n.before)))), λ h. rw e (nearest8 s (omega (arith, Z, a.least)) d a.input.long))
+    record { answer = rw e (ap (λ (w : Verdict). answered w (nearest_point s d)) (sym (accepted (told n.before)))); closest = λ h. rw e (nearest8 s (omega (arith, Z, a.least)) d a.input.long) }

@@ -12,12 +12,18 @@ use Rattle.texts.specs.declared.Size.TheVariants.{Of, NoDigits}
 use Rattle.texts.specs.Answers.{cap, size_after, size_of}
 use Rattle.texts.specs.Laws.Numbers.{size-next, size_none}
 use Rattle.texts.proofs.digits_size.Goals as goal
-use Rattle.texts.proofs.digits_size.Goals.{After-is_digit, At-loop-i}
+use Rattle.texts.proofs.digits_size.Goals.{After-is_digit}
+use Rattle.texts.proofs.digits_size.Lts as lts
+use Rattle.texts.proofs.digits_size.Tie as tie
+use Rattle.texts.proofs.digits_size.Reads as reads
+
+abbrev At-loop-i : Type 0
+At-loop-i = lts.At-loop tie.the-claims reads.Pre reads.Post goal.the-invariant-loop-i goal.the-decreases-loop-i
 
 -- the byte at i
 module _ (c : After-is_digit) where
   abbrev l : At-loop-i
-  l = c.before.before.before
+  l = c.before.before.before.before
 
   abbrev ds : List ℕ
   ds = l.before.before.before.args.ds.now

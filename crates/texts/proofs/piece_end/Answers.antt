@@ -11,7 +11,12 @@ use lib.ListN.{length, get_or, drop, drop_of_length-le}
 use Rattle.texts.specs.Answers.{piece_length}
 use Rattle.texts.specs.Laws.Pieces.{piece-next}
 use Rattle.texts.proofs.piece_end.Goals as goal
-use Rattle.texts.proofs.piece_end.Goals.{In-loop-i}
+use Rattle.texts.proofs.piece_end.Lts as lts
+use Rattle.texts.proofs.piece_end.Tie as tie
+use Rattle.texts.proofs.piece_end.Reads as reads
+
+abbrev In-loop-i : Type 0
+In-loop-i = lts.In-loop reads.Pre reads.Post goal.the-invariant-loop-i goal.the-decreases-loop-i tie.handed_clauses
 
 -- the byte at i decides
 module _ (l : In-loop-i) where
@@ -34,12 +39,12 @@ pub loop-i-init : goal.loop-i-init
 loop-i-init c = (omega arith, c.requires, refl)
 
 pub returns-then-s-i : goal.returns-then-s-i
-returns-then-s-i c = let l = c.before.before in (omega (arith, opened l true (eq-eqb (get_or (s l) (i l) 0) (mark l) c.if-s-i.true)), omega arith)
+returns-then-s-i c = let l = c.before.before in record { is = omega (arith, opened l.before true (eq-eqb (get_or (s l.before) (i l.before) 0) (mark l.before) c.if-s-i.true)); within = omega arith }
 
 pub loop-i-preserved : goal.loop-i-preserved
 loop-i-preserved c = let l = c.before.before in
-    (omega arith, omega arith, rw (add-one (i l)) (omega (arith, opened l false (ne_eqb (get_or (s l) (i l) 0) (mark l) c.if-s-i.false))))
+    (omega arith, omega arith, rw (add-one (i l.before)) (omega (arith, opened l.before false (ne_eqb (get_or (s l.before) (i l.before) 0) (mark l.before) c.if-s-i.false))))
 
 pub returns : goal.returns
 returns c = let a = c.before.before.args in let i = c.before.loop-i.i in
-    (omega (arith, c.before.loop-i.invariant.2, ap (piece_length a.mark) (drop_of_length-le a.s.now {i = i} (omega arith))), omega arith)
+    record { is = omega (arith, c.before.loop-i.invariant.2, ap (piece_length a.mark) (drop_of_length-le a.s.now {i = i} (omega arith))); within = omega arith }

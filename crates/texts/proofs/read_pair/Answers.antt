@@ -18,22 +18,28 @@ use Rattle.texts.specs.Laws.Asked.{counted-numbers, counted-other, pair-not, pai
 use Rattle.texts.specs.Laws.Rooms.{front_at}
 use Rattle.texts.specs.Text.{numeric, numbers}
 use Rattle.texts.proofs.read_pair.Goals as goal
-use Rattle.texts.proofs.read_pair.Goals.{After-read_numbers, In-Numbers}
+use Rattle.texts.proofs.read_pair.Goals.{In-Numbers}
+use Rattle.texts.proofs.read_pair.Lts as lts
+use Rattle.texts.proofs.read_pair.Tie as tie
+use Rattle.texts.proofs.read_pair.Reads as reads
+
+abbrev After-read_numbers : Type 0
+After-read_numbers = lts.After-read_numbers tie.the-claims reads.Pre reads.Post tie.handed_clauses
 
 pub returns-in_default : goal.returns-in_default
 returns-in_default c = let r = c.before.before.before in let l = r.before.before.before.args.line.now in
-    sym (pair-not l (ap (λ (b : Bool). b && eqb (length (numbers l)) 2) (counted-other l (sym r.read_numbers.ensures.0 ∙ c.enum_told-1.given.1))))
+    sym (pair-not l (ap (λ (b : Bool). b && eqb (length (numbers l)) 2) (counted-other l (sym r.read_numbers.ensures.answer ∙ c.enum_told-1.given.1))))
 
 -- a line of numbers
 module _ (k : In-Numbers) where
   abbrev r : After-read_numbers
-  r = k.before.before.before.before
+  r = k.before.before.before
 
   abbrev line : List ℕ
   line = r.before.before.before.args.line.now
 
   read : (numeric line ≡ true) × (length (numbers line) ≡ k.before.n-1.given.0.0)
-  read = counted-numbers line _ (sym r.read_numbers.ensures.0 ∙ k.before.n-1.given.1)
+  read = counted-numbers line _ (sym r.read_numbers.ensures.answer ∙ k.before.n-1.given.1)
 
 pub returns-then-n-ne2 : goal.returns-then-n-ne2
 returns-then-n-ne2 c = let k = c.before in let l = line k in
@@ -44,6 +50,6 @@ returns c =
     let k = c.before.before.before in let l = line k in let x = (r k).read_numbers.new.out in
     let count : length (numbers l) ≡ 2 = omega (arith, (read k).1, c.before.before.if-n-ne2.false) in
     let fq : SFits w32 («at» x 0) = record { sfits = c.before.result-1.given } in let fm : SFits w32 («at» x 1) = record { sfits = c.result-2-1.given } in
-    let found : (i : ℕ) → i < 2 → «at» x i ≡ «at» (numbers l) i = λ i h. ap (λ (x : List ℤ). «at» x i) ((r k).read_numbers.ensures.1 (read k).0) ∙ front_at (zeros 2048) (numbers l) i (pos 0) (omega arith) (omega arith) in
+    let found : (i : ℕ) → i < 2 → «at» x i ≡ «at» (numbers l) i = λ i h. ap (λ (x : List ℤ). «at» x i) ((r k).read_numbers.ensures.room (read k).0) ∙ front_at (zeros 2048) (numbers l) i (pos 0) (omega arith) (omega arith) in
     simp (to_z-of_z, fq, fm)
     (ap₂ (λ (q m : ℤ). Two (record { q = q; m = m })) (found 0 (omega arith)) (found 1 (omega arith)) ∙ sym (pair_is l (ap₂ ◌&&◌ (read k).0 (eq-eqb (length (numbers l)) 2 count))))

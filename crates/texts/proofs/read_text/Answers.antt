@@ -17,7 +17,7 @@ use Rattle.texts.proofs.read_text.Goals.{In-Three-2, Start}
 -- three lines, and where they end
 module _ (k : In-Three-2) where
   abbrev s : Start
-  s = k.before.before.before.before
+  s = k.before.before.before.before.before
 
   abbrev t : List ℕ
   t = s.args.text.now
@@ -72,18 +72,12 @@ read_lines-requires c = let k = c.before.before.before.before.before.before in l
 pub returns-in-Other : goal.returns-in-Other
 returns-in-Other c =
     let f = c.before.before in let t = f.before.before.args.text.now in
-    let no : well_formed t ≡ false = not-formed t (subst (LinesFound t) c.enum_told-1.given.1 f.find_lines.ensures) in (
-      sym (ap (λ (b : Bool). cond b (Block (settings_in (line_of t 0)) (length (numbers (line_of t 1)))) Malformed) no),
-      λ e. let f : true ≡ false = sym e ∙ no in let z : ◌≡◌ {A = ℕ} 0 1 = cc in absurd (omega arith),
-    )
+    let no : well_formed t ≡ false = not-formed t (subst (LinesFound t) c.enum_told-1.given.1 f.find_lines.ensures) in record { answer = sym (ap (λ (b : Bool). cond b (Block (settings_in (line_of t 0)) (length (numbers (line_of t 1)))) Malformed) no); room = λ e. let f : true ≡ false = sym e ∙ no in let z : ◌≡◌ {A = ℕ} 0 1 = cc in absurd (omega arith) }
 
 pub returns-in-Three : goal.returns-in-Three
 returns-in-Three c =
     let r = c.before.before in let k = r.before.before.before.before.before.before.before in let h = found k in let x = t k in let g = (s k).args in
-    let one = first x (a k) (b k) (e k) h in let two = second x (a k) (b k) (e k) h in let three = third x (a k) (b k) (e k) h in (
-      r.read_lines.ensures.0 ∙ ap (λ (f : List ℕ). asked_told f two three) (lent k) ∙ told_is x (a k) (b k) (e k) h,
-      λ w. let both = r.read_lines.ensures.1 (ap (λ (f : List ℕ). is_asked f two three) (lent k) ∙ sym (formed-is x (a k) (b k) (e k) h) ∙ w) in (
-        both.0 ∙ ap (λ (f : List ℕ). sets g.steps-1.now 0 (numbers f)) (sym (line-is x (a k) (b k) (e k) h 1)),
-        both.1 ∙ ap (λ (f : List ℕ). sets g.x-1.now 0 (numbers f)) (sym (line-is x (a k) (b k) (e k) h 2)),
-      ),
-    )
+    let one = first x (a k) (b k) (e k) h in let two = second x (a k) (b k) (e k) h in let three = third x (a k) (b k) (e k) h in record { answer = r.read_lines.ensures.answer ∙ ap (λ (f : List ℕ). asked_told f two three) (lent k) ∙ told_is x (a k) (b k) (e k) h; room = λ w. let both = r.read_lines.ensures.room (ap (λ (f : List ℕ). is_asked f two three) (lent k) ∙ sym (formed-is x (a k) (b k) (e k) h) ∙ w) in (
+        both.0 ∙ ap (λ (f : List ℕ). sets g.steps.now 0 (numbers f)) (sym (line-is x (a k) (b k) (e k) h 1)),
+        both.1 ∙ ap (λ (f : List ℕ). sets g.x.now 0 (numbers f)) (sym (line-is x (a k) (b k) (e k) h 2)),
+      ) }

@@ -12,7 +12,11 @@ use Rattle.refusals.specs.declared.Refusal.TheVariants.{Byte}
 use Rattle.refusals.specs.declared.Verdict.TheVariants.{Refused}
 use Rattle.coding.specs.Answers.{check_below}
 use Rattle.coding.proofs.asked.first_above.Goals as goal
-use Rattle.coding.proofs.asked.first_above.Goals.{In-loop-i}
+use Rattle.coding.proofs.asked.first_above.Lts as lts
+use Rattle.coding.proofs.asked.first_above.Reads as reads
+
+abbrev In-loop-i : Type 0
+In-loop-i = lts.In-loop reads.Pre reads.Post goal.the-invariant-loop-i goal.the-decreases-loop-i
 
 -- the digit at i decides
 module _ (l : In-loop-i) where
@@ -35,18 +39,18 @@ pub loop-i-init : goal.loop-i-init
 loop-i-init s = let e : s.args.first ≡ s.args.first + 0 = omega arith in (omega arith, ap (λ (k : ℕ). check_below s.args.q k s.args.ds.now) e)
 
 pub overflow_cast-ds : goal.overflow_cast-ds
-overflow_cast-ds c = record { fits = omega (arith, c.shared_slice_known-1.given (i c.before)) }
+overflow_cast-ds c = record { fits = omega (arith, c.shared_slice_known-1.given (i c.before.before)) }
 
 pub overflow_add-result : goal.overflow_add-result
 overflow_add-result c = record { fits = omega (arith, c.before.before.before.before.requires) }
 
 pub returns-then-ds-i : goal.returns-then-ds-i
-returns-then-ds-i c = let l = c.before.before in sym (opened l false (le-ltb (get_or (ds l) (i l) 0) (q l) c.if-ds-i.true))
+returns-then-ds-i c = let l = c.before.before in sym (opened l.before false (le-ltb (get_or (ds l.before) (i l.before) 0) (q l.before) c.if-ds-i.true))
 
 pub loop-i-preserved : goal.loop-i-preserved
-loop-i-preserved c = let l = c.before.before in let k : suc (first l + i l) ≡ first l + (i l + 1) = omega arith in let j : suc (i l) ≡ i l + 1 = omega arith in (
+loop-i-preserved c = let l = c.before.before in let k : suc (first l.before + i l.before) ≡ first l.before + (i l.before + 1) = omega arith in let j : suc (i l.before) ≡ i l.before + 1 = omega arith in (
   omega arith,
-  opened l true (lt-ltb (get_or (ds l) (i l) 0) (q l) (omega (arith, c.if-ds-i.false))) ∙ ap₂ (λ (k j : ℕ). check_below (q l) k (drop j (ds l))) k j,
+  opened l.before true (lt-ltb (get_or (ds l) (i l) 0) (q l) (omega (arith, c.if-ds-i.false))) ∙ ap₂ (λ (k j : ℕ). check_below (q l) k (drop j (ds l))) k j,
 )
 
 pub returns : goal.returns

@@ -8,7 +8,15 @@ use native.Mathlib.Omega.{arith}
 use lib.ListN.{length, get_or, length-set}
 use Rattle.coding.specs.Laws.Counting.{Carrying, carrying-digit, carrying-up, carrying-on, carrying-done}
 use Rattle.coding.proofs.counting.count_up.Goals as goal
-use Rattle.coding.proofs.counting.count_up.Goals.{After-slice_known-1, At-loop-k, Start}
+use Rattle.coding.proofs.counting.count_up.Goals.{At-loop-k}
+use Rattle.coding.proofs.counting.count_up.Lts as lts
+use Rattle.coding.proofs.counting.count_up.Reads as reads
+
+abbrev After-slice_known-1 : Type 0
+After-slice_known-1 = lts.After-slice_known reads.Pre reads.Post goal.the-invariant-loop-k goal.the-decreases-loop-k
+
+abbrev Start : Type 0
+Start = lts.Start reads.Pre reads.Post goal.the-invariant-loop-k goal.the-decreases-loop-k
 
 -- the digit at k
 module _ (c : After-slice_known-1) where
@@ -37,7 +45,7 @@ pub bounds-ds-k : goal.bounds-ds-k
 bounds-ds-k c = within c
 
 pub overflow_add-d : goal.overflow_add-d
-overflow_add-d c = record { fits = omega (arith, digit c, (s c).ranges.q.fits) }
+overflow_add-d c = record { fits = omega (arith, digit c.before, (s c.before).ranges.q.fits) }
 
 pub bounds-ds-k-then-d-q : goal.bounds-ds-k-then-d-q
 bounds-ds-k-then-d-q c = within c.before

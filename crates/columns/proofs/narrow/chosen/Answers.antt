@@ -20,7 +20,16 @@ use Rattle.rounding.specs.Laws.Reciprocals.{twice-pos}
 use Rattle.columns.specs.Narrow.{Slight, wide, wide_mend, brief}
 use Rattle.rounding.specs.Pass.{mended, lead, even_mend, odd_mend, choose, chosen}
 use Rattle.columns.proofs.narrow.chosen.Goals as goal
-use Rattle.columns.proofs.narrow.chosen.Goals.{After-either-2, After-lead-even, After-mended-x, After-mended-y, After-place_of, Start}
+use Rattle.columns.proofs.narrow.chosen.Goals.{After-either-2, After-lead-even, After-place_of, Start}
+use Rattle.columns.proofs.narrow.chosen.Lts as lts
+use Rattle.columns.proofs.narrow.chosen.Tie as tie
+use Rattle.columns.proofs.narrow.chosen.Reads as reads
+
+abbrev After-mended-y : Type 0
+After-mended-y = lts.After-mended2 tie.the-claims reads.Pre reads.Post
+
+abbrev After-mended-x : Type 0
+After-mended-x = lts.After-mended tie.the-claims reads.Pre reads.Post
 
 module _ (b : Start) where
   abbrev s : ℤ
@@ -63,7 +72,7 @@ mended-x-requires c = let b = c.before.before in simp (to_z-of_z, b.ranges.s) (b
 -- the even half's mend
 module _ (c : After-mended-x) where
   abbrev b₁ : Start
-  b₁ = c.before.before.before
+  b₁ = c.before.before.before.before
 
   x-is : wide_mend c.mended-x.result ≡ x b₁
   x-is = (simp (to_z-of_z, b₁.ranges.s) at c.mended-x.ensures) ∙ ap (mended (s b₁) (scan b₁).most) (simp (to_z-of_z, fs b₁) at c.before.odd.ensures)

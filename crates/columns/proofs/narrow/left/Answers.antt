@@ -98,7 +98,7 @@ module _ (c : After-sign) where
 -- and the step
 module _ (c : After-either) where
   abbrev signed : After-sign
-  signed = c.before.before.before.before.before
+  signed = c.before.before.before.before.before.before
 
   abbrev m : In-loop-j
   m = l signed
@@ -132,7 +132,7 @@ pub loop-j-init : goal.loop-j-init
 loop-j-init c = record { within = omega arith; long = refl; same = refl }
 
 pub overflow_mul-r : goal.overflow_mul-r
-overflow_mul-r c = let n = c.before.before in simp (to_z-of_z, fp (l n), fw n) (fpr n)
+overflow_mul-r c = let n = c.before.before in simp (to_z-of_z, fp (l n.before), fw n.before) (fpr n.before)
 
 pub overflow_cast-j : goal.overflow_cast-j
 overflow_cast-j c = record { fits = omega arith }

@@ -23,7 +23,13 @@ use Rattle.columns.specs.Narrow.{Few, Slender, wide, brief, left_by}
 use Rattle.rounding.specs.Pass.{scanned, chosen}
 use Rattle.rounding.specs.Rounding.{round, left, sign}
 use Rattle.columns.proofs.narrow.rest.Goals as goal
-use Rattle.columns.proofs.narrow.rest.Goals.{After-chosen-c, After-rounds, After-scanned, After-sign, Start}
+use Rattle.columns.proofs.narrow.rest.Goals.{After-chosen-c, After-scanned, After-sign, Start}
+use Rattle.columns.proofs.narrow.rest.Lts as lts
+use Rattle.columns.proofs.narrow.rest.Tie as tie
+use Rattle.columns.proofs.narrow.rest.Reads as reads
+
+abbrev After-rounds : Type 0
+After-rounds = lts.After-rounds tie.the-claims reads.Pre reads.Post
 
 -- the roundings F of d, which leave A, and the choice that they lead to
 module _ (b : Start) where
@@ -60,7 +66,7 @@ module _ (b : Start) where
 -- what the calls have made
 module _ (c : After-rounds) where
   abbrev b₁ : Start
-  b₁ = c.before.before.before
+  b₁ = c.before.before.before.before
 
   abbrev f : List ℤ
   f = c.rounds.new.f

@@ -11,7 +11,7 @@ use Rattle.integers.specs.Laws.Sizes.{abs-add, abs-mul-le, fits-mag}
 use Rattle.integers.specs.Vectors.{square}
 use Rattle.rounding.specs.declared.half.Scan.{Scan}
 use Rattle.rounding.specs.Laws.Keys.{key-small}
-use Rattle.rounding.specs.Laws.lowered-b.{lowered-small}
+use Rattle.rounding.specs.Laws.Lowered.{lowered-small}
 use Rattle.columns.specs.Narrow.{wide}
 use Rattle.rounding.specs.Rounding.{lowered, key}
 use Rattle.columns.proofs.narrow.seen.Goals as goal
@@ -53,7 +53,7 @@ module _ (c : After-smaller) where
   b≤ = subst (λ (z : ℤ). nat_abs z ≤ 32) (sym b-is) (omega (arith, lowered-small start.args.s a, start.requires.2, start.requires.3.most))
 
   fb : SFits w16 b
-  fb = record { sfits = low.lowered-b.ok }
+  fb = record { sfits = low.lowered-b.type_inv }
 
   fs : SFits w16 was.sum
   fs = fits-mag w16 _ (omega (arith, start.requires.0.sum))
@@ -83,13 +83,13 @@ pub overflow_add-result : goal.overflow_add-result
 overflow_add-result c = let m = c.before in record { fits = omega (arith, k≤ m, (start m).requires.0.keys) }
 
 pub overflow_add-result-2 : goal.overflow_add-result-2
-overflow_add-result-2 c = let m = c.before.before.before in simp (to_z-of_z, fs m, (start m).ranges.f) (fsf m)
+overflow_add-result-2 c = let m = c.before.before.before in simp (to_z-of_z, fs m.before, (start m.before).ranges.f) (fsf m.before)
 
 pub overflow_mul-result : goal.overflow_mul-result
-overflow_mul-result c = let m = c.before.before.before in simp (to_z-of_z, (start m).ranges.a) (faa m)
+overflow_mul-result c = let m = c.before.before.before in simp (to_z-of_z, (start m.before).ranges.a) (faa m.before)
 
 pub overflow_add-result-3 : goal.overflow_add-result-3
-overflow_add-result-3 c = let m = c.before.before.before.before.before in simp (to_z-of_z, (start m).ranges.a, fe m, faa m) (feaa m)
+overflow_add-result-3 c = let m = c.before.before.before.before.before in simp (to_z-of_z, (start m.before).ranges.a, fe m.before, faa m.before) (feaa m.before)
 
 pub overflow_mul-result-2 : goal.overflow_mul-result-2
 overflow_mul-result-2 c = let m = c.before.before.before.before.before in simp (to_z-of_z, fb m) (fbb m)

@@ -8,7 +8,4 @@ use Rattle.enkhovrag.specs.Answers.{point_out}
 use Rattle.enkhovrag.proofs.bench.ek_digits_of_point.Goals as goal
 
 pub returns : goal.returns
-returns c = let d = c.before.before.before in let e = d.before.before in let v = e.before.before.args in (
-  c.point_out.ensures ∙ ap point_out (d.digits_of_point.ensures.0 ∙ ap (λ (s : Settings). coded s v.e.now (length v.out-1.now)) e.settings_in.ensures),
-  d.digits_of_point.ensures.1 ∙ ap (λ (s : Settings). digit_room s v.e.now v.out-1.now) e.settings_in.ensures,
-)
+returns c = let d = c.before.before.before in let e = d.before.before in let v = e.before.before.args in record { answer = c.point_out.ensures ∙ ap point_out (d.digits_of_point.ensures.answer ∙ ap (λ (s : Settings). coded s v.e.now (length v.out.now)) e.settings_in.ensures); room = d.digits_of_point.ensures.room ∙ ap (λ (s : Settings). digit_room s v.e.now v.out.now) e.settings_in.ensures }

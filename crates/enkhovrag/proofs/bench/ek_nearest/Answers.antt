@@ -6,4 +6,4 @@ use Rattle.enkhovrag.specs.Answers.{point_out}
 use Rattle.enkhovrag.proofs.bench.ek_nearest.Goals as goal
 
 pub returns : goal.returns
-returns c = c.point_out.ensures ∙ ap point_out (simp (to_z-of_z, c.before.before.ranges.s) at c.before.nearest.ensures.0)
+returns c = c.point_out.ensures ∙ ap point_out (simp (to_z-of_z, c.before.before.ranges.s) at c.before.nearest.ensures.answer)

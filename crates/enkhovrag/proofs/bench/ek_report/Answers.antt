@@ -4,8 +4,8 @@ use borrow.Author.Rules.{rules}
 use lib.ListN.{length}
 use Rattle.refusals.specs.declared.settings.Settings.{Settings}
 use Rattle.reports.specs.declared.ReportAnswer.{ReportAnswer}
-use Rattle.reports.specs.Laws.report.{report-long}
-use Rattle.reports.specs.report.{report}
+use Rattle.reports.specs.Laws.Report.{report-long}
+use Rattle.reports.specs.Report.{report}
 use Rattle.enkhovrag.specs.Answers.{report_out}
 use Rattle.enkhovrag.proofs.bench.ek_report.Goals as goal
 

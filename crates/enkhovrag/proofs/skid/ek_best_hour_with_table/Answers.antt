@@ -9,7 +9,4 @@ use Rattle.enkhovrag.specs.Answers.{hour_out}
 use Rattle.enkhovrag.proofs.skid.ek_best_hour_with_table.Goals as goal
 
 pub returns : goal.returns
-returns c = let d = c.before.before in let e = d.before.before in let v = e.before.before.before.args in (
-  c.hour_out.ensures ∙ ap hour_out (d.best_hour_with_table.ensures.0 ∙ ap (λ (s : Settings). best_hour_by s v.steps.now (fvecs_hour v.query.now) v.store.now (length v.table-1.now)) e.settings_in.ensures),
-  d.best_hour_with_table.ensures.1 ∙ ap (λ (s : Settings). best_hour_table s v.steps.now (fvecs_hour v.query.now) v.store.now v.table-1.now) e.settings_in.ensures,
-)
+returns c = let d = c.before.before in let e = d.before.before in let v = e.before.before.before.args in record { answer = c.hour_out.ensures ∙ ap hour_out (d.best_hour_with_table.ensures.answer ∙ ap (λ (s : Settings). best_hour_by s v.steps.now (fvecs_hour v.query.now) v.store.now (length v.table.now)) e.settings_in.ensures); room = d.best_hour_with_table.ensures.room ∙ ap (λ (s : Settings). best_hour_table s v.steps.now (fvecs_hour v.query.now) v.store.now v.table.now) e.settings_in.ensures }

@@ -4,13 +4,10 @@ use borrow.Author.Rules.{rules}
 use Rattle.refusals.specs.declared.settings.Settings.{Settings}
 use lib.ListN.{length}
 use Rattle.layers.specs.Code.{eight_of}
-use Rattle.encoding.specs.encode.{encoded, encoded_room}
+use Rattle.encoding.specs.Encode.{encoded, encoded_room}
 use Rattle.records.specs.Eight.Vectors.{fvecs_hour}
 use Rattle.enkhovrag.specs.Answers.{answer_out}
 use Rattle.enkhovrag.proofs.skid.ek_encode.Goals as goal
 
 pub returns : goal.returns
-returns c = let d = c.before.before.before in let e = d.before.before in let v = e.before.before.before.args in (
-  c.answer_out.ensures ∙ ap answer_out (d.encode.ensures.0 ∙ ap (λ (s : Settings). encoded (eight_of s) s v.steps.now (fvecs_hour v.hour.now) (length v.out-1.now)) e.settings_in.ensures),
-  d.encode.ensures.1 ∙ ap (λ (s : Settings). encoded_room (eight_of s) s v.steps.now (fvecs_hour v.hour.now) v.out-1.now) e.settings_in.ensures,
-)
+returns c = let d = c.before.before.before in let e = d.before.before in let v = e.before.before.before.args in record { answer = c.answer_out.ensures ∙ ap answer_out (d.encode.ensures.answer ∙ ap (λ (s : Settings). encoded (eight_of s) s v.steps.now (fvecs_hour v.hour.now) (length v.out.now)) e.settings_in.ensures); room = d.encode.ensures.room ∙ ap (λ (s : Settings). encoded_room (eight_of s) s v.steps.now (fvecs_hour v.hour.now) v.out.now) e.settings_in.ensures }

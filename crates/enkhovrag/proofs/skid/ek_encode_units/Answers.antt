@@ -10,7 +10,4 @@ use Rattle.enkhovrag.specs.Answers.{answer_out}
 use Rattle.enkhovrag.proofs.skid.ek_encode_units.Goals as goal
 
 pub returns : goal.returns
-returns c = let d = c.before.before.before in let e = d.before.before in let v = e.before.before.args in (
-  c.answer_out.ensures ∙ ap answer_out (d.encode_units.ensures.0 ∙ ap (λ (s : Settings). encoded (eight_of s) s v.steps.now (units_hour v.units.now) (length v.out-1.now)) e.settings_in.ensures),
-  d.encode_units.ensures.1 ∙ ap (λ (s : Settings). encoded_room (eight_of s) s v.steps.now (units_hour v.units.now) v.out-1.now) e.settings_in.ensures,
-)
+returns c = let d = c.before.before.before in let e = d.before.before in let v = e.before.before.args in record { answer = c.answer_out.ensures ∙ ap answer_out (d.encode_units.ensures.answer ∙ ap (λ (s : Settings). encoded (eight_of s) s v.steps.now (units_hour v.units.now) (length v.out.now)) e.settings_in.ensures); room = d.encode_units.ensures.room ∙ ap (λ (s : Settings). encoded_room (eight_of s) s v.steps.now (units_hour v.units.now) v.out.now) e.settings_in.ensures }

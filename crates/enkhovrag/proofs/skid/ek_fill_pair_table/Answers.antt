@@ -8,7 +8,4 @@ use Rattle.enkhovrag.specs.Answers.{answer_out}
 use Rattle.enkhovrag.proofs.skid.ek_fill_pair_table.Goals as goal
 
 pub returns : goal.returns
-returns c = let d = c.before.before in let e = d.before.before in let v = e.before.args in (
-  c.answer_out.ensures ∙ ap answer_out (d.fill_pair_table.ensures.0 ∙ ap (λ (s : Settings). pair_filled s (length v.table-1.now)) e.settings_in.ensures),
-  d.fill_pair_table.ensures.1 ∙ ap (λ (s : Settings). pair_table_room s v.table-1.now) e.settings_in.ensures,
-)
+returns c = let d = c.before.before in let e = d.before.before in let v = e.before.args in record { answer = c.answer_out.ensures ∙ ap answer_out (d.fill_pair_table.ensures.answer ∙ ap (λ (s : Settings). pair_filled s (length v.table.now)) e.settings_in.ensures); room = d.fill_pair_table.ensures.room ∙ ap (λ (s : Settings). pair_table_room s v.table.now) e.settings_in.ensures }

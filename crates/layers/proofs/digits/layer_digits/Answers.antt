@@ -25,4 +25,4 @@ remainders-requires c = let r = c.before.before in let s = r.before.before in le
 pub returns : goal.returns
 unfolding layer_digits
 returns c = let r = c.before.before in let s = r.before.before.before.before.before in
-    (simp (to_z-of_z, s.ranges.q) at r.remainders.ensures) ∙ ap (λ (e : List ℤ). remainders (nat_abs s.args.q) e ++ drop 8 s.args.out-1.now) r.before.before.before.coefficients-c.ensures
+    (simp (to_z-of_z, s.ranges.q) at r.remainders.ensures) ∙ ap (λ (e : List ℤ). remainders (nat_abs s.args.q) e ++ drop 8 s.args.out.now) r.before.before.before.coefficients-c.ensures

@@ -32,7 +32,7 @@ module _ (s : Start) where
 module _ (c : After-powers) where
   product_small : c.before.four.result * c.powers.result ≤ 2 ^ 32 * 2 ^ 25
   product_small = let s = c.before.before.before in
-      let w : c.before.four.result ≤ 2 ^ 32 = omega (arith, c.before.four.ensures, word_small s) in let p : c.powers.result ≤ 2 ^ 25 = omega (arith, c.powers.ensures, powers-small (q s) s.requires.1) in
+      let w : c.before.four.result ≤ 2 ^ 32 = omega (arith, c.before.four.ensures, word_small s.before) in let p : c.powers.result ≤ 2 ^ 25 = omega (arith, c.powers.ensures, powers-small (q s.before) s.requires.1) in
       mul-le-mul w p
 
 pub overflow_mul-result : goal.overflow_mul-result
@@ -40,4 +40,4 @@ overflow_mul-result c = omega (arith, product_small c)
 
 pub returns : goal.returns
 returns c = let s = c.before.before.before in
-    (ap₂ (λ (x y : ℕ). x * y / 16777216 % 256) c.before.four.ensures c.powers.ensures ∙ gathered (q s) (ds s) (four-long s) s.requires.1 (below s), omega arith)
+    (ap₂ (λ (x y : ℕ). x * y / 16777216 % 256) c.before.four.ensures c.powers.ensures ∙ gathered (q s.before) (ds s.before) (four-long s.before) s.requires.1 (below s.before), omega arith)

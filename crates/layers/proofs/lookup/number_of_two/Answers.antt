@@ -11,7 +11,13 @@ use Rattle.layers.specs.Digits.{Below, entry_of, powers}
 use Rattle.layers.specs.Laws.Entries.{entry_of-less, entry_of-halves, gathered-two}
 use Rattle.layers.specs.Laws.Rows.{below-take, below-drop, below_more}
 use Rattle.layers.proofs.lookup.number_of_two.Goals as goal
-use Rattle.layers.proofs.lookup.number_of_two.Goals.{After-four-2, Start}
+use Rattle.layers.proofs.lookup.number_of_two.Goals.{Start}
+use Rattle.layers.proofs.lookup.number_of_two.Lts as lts
+use Rattle.layers.proofs.lookup.number_of_two.Tie as tie
+use Rattle.layers.proofs.lookup.number_of_two.Reads as reads
+
+abbrev After-four-2 : Type 0
+After-four-2 = lts.After-four2 tie.the-claims reads.Pre reads.Post
 
 -- four of the digits, from `from` on
 module _ (s : Start) (from : ℕ) (h : from + 4 ≤ 8) where
@@ -32,7 +38,7 @@ module _ (s : Start) (from : ℕ) (h : from + 4 ≤ 8) where
 
 module _ (c : After-four-2) where
   abbrev s : Start
-  s = c.before.before.before
+  s = c.before.before.before.before
 
   first_small : c.before.four.result < 2 ^ 32
   first_small = omega (arith, c.before.four.ensures, word_small s 0 (omega arith))

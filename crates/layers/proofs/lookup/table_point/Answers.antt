@@ -10,12 +10,18 @@ use Rattle.layers.specs.Digits.{entry_of}
 use Rattle.layers.specs.Laws.Entries.{entry_of-less}
 use Rattle.layers.specs.Laws.Table.{table-long, table-row}
 use Rattle.layers.proofs.lookup.table_point.Goals as goal
-use Rattle.layers.proofs.lookup.table_point.Goals.{After-entry_number-at, Start}
+use Rattle.layers.proofs.lookup.table_point.Goals.{Start}
+use Rattle.layers.proofs.lookup.table_point.Lts as lts
+use Rattle.layers.proofs.lookup.table_point.Tie as tie
+use Rattle.layers.proofs.lookup.table_point.Reads as reads
+
+abbrev After-entry_number-at : Type 0
+After-entry_number-at = lts.After-entry_number tie.the-claims reads.Pre reads.Post
 
 -- the entry number is below 256, and the row lies within the table
 module _ (c : After-entry_number-at) where
   abbrev s : Start
-  s = c.before.before
+  s = c.before.before.before
 
   abbrev ds : List ℕ
   ds = s.args.ds.now

@@ -14,7 +14,13 @@ use Rattle.layers.specs.E8.{e8, nearest, layer_point8, decode8}
 use Rattle.layers.specs.Laws.Bases.{base-is, layer_point8-sized, decode8-sized}
 use Rattle.layers.specs.Laws.Loops.{code-layer, decode-down}
 use Rattle.layers.proofs.points.decode.Goals as goal
-use Rattle.layers.proofs.points.decode.Goals.{After-layer_point-l, In-loop-i, Start}
+use Rattle.layers.proofs.points.decode.Goals.{After-layer_point-l, Start}
+use Rattle.layers.proofs.points.decode.Lts as lts
+use Rattle.layers.proofs.points.decode.Tie as tie
+use Rattle.layers.proofs.points.decode.Reads as reads
+
+abbrev In-loop-i : Type 0
+In-loop-i = lts.In-loop tie.the-claims reads.Pre reads.Post goal.the-invariant-loop-i goal.the-decreases-loop-i
 
 module _ (s : Start) where
   abbrev q : ℤ
@@ -26,7 +32,7 @@ module _ (s : Start) where
 -- layer j = i - 1, and the layers above it
 module _ (l : In-loop-i) where
   abbrev s : Start
-  s = l.before.before.before
+  s = l.before.before.before.before
 
   abbrev i : ℕ
   i = l.before.loop-i.i
@@ -43,10 +49,10 @@ module _ (l : In-loop-i) where
   eight : 8 * j + 8 - 8 * j ≡ 8
   eight = omega arith
 
-  above-is : l.before.loop-i.e-1 ≡ decode8 (nat_abs (q s)) (s.args.m - suc j) (drop (8 * suc j) (ds s))
+  above-is : l.before.loop-i.e ≡ decode8 (nat_abs (q s)) (s.args.m - suc j) (drop (8 * suc j) (ds s))
   above-is = (simp (to_z-of_z, s.ranges.q) at l.before.loop-i.invariant.1) ∙ ap (λ (k : ℕ). decode8 (nat_abs (q s)) (s.args.m - k) (drop (8 * k) (ds s))) (sym next)
 
-  above-small : Sized 8 (2 ^ 30) l.before.loop-i.e-1
+  above-small : Sized 8 (2 ^ 30) l.before.loop-i.e
   above-small = subst (Sized 8 (2 ^ 30)) (sym above-is) (decode8-sized (q s) s.requires.1 s.args.m s.requires.2 (ds s) s.requires.3 (suc j) within)
 
   is-layer : IsLayer 8 (nat_abs (q s)) (take 8 (drop (8 * j) (ds s)))
@@ -54,7 +60,7 @@ module _ (l : In-loop-i) where
 
 module _ (c : After-layer_point-l) where
   abbrev l : In-loop-i
-  l = c.before.before
+  l = c.before.before.before
 
   layer-is : c.layer_point-l.result ≡ layer_point8 (nat_abs (q (s l))) (take 8 (drop (8 * j l) (ds (s l))))
   layer-is = (simp (to_z-of_z, (s l).ranges.q) at c.layer_point-l.ensures) ∙ ap (λ (k : ℕ). layer_point8 (nat_abs (q (s l))) (take k (drop (8 * j l) (ds (s l))))) (eight l)
@@ -95,4 +101,4 @@ loop-i-preserved c = let p = c.before.before.before in let b = s (l p) in (
 
 pub returns : goal.returns
 returns c = let l = c.before in let b = l.before.before in let e : l.loop-i.i ≡ 0 = omega arith in let f : b.args.m - l.loop-i.i ≡ b.args.m = omega arith in
-    (simp (to_z-of_z, b.ranges.q) at l.loop-i.invariant.1) ∙ ap₂ (λ (k j : ℕ). decode8 (nat_abs (q b)) k (drop (8 * j) (ds b))) f e
+    (simp (to_z-of_z, b.ranges.q) at l.loop-i.invariant.1) ∙ ap₂ (λ (k j : ℕ). decode8 (nat_abs (q b.before)) k (drop (8 * j) (ds b.before))) f e

@@ -9,11 +9,17 @@ use mir.Facts.{to_z-of_z}
 use Rattle.layers.specs.Digits.{IsLayer}
 use Rattle.layers.specs.E8.{layer_point8}
 use Rattle.layers.proofs.points.layer_point.Goals as goal
-use Rattle.layers.proofs.points.layer_point.Goals.{Start, Then-q-eq2}
+use Rattle.layers.proofs.points.layer_point.Goals.{Start}
+use Rattle.layers.proofs.points.layer_point.Lts as lts
+use Rattle.layers.proofs.points.layer_point.Tie as tie
+use Rattle.layers.proofs.points.layer_point.Reads as reads
+
+abbrev Then-q-eq2 : Type 0
+Then-q-eq2 = lts.Then1 tie.the-claims reads.Pre reads.Post
 
 module _ (c : Then-q-eq2) where
   abbrev s : Start
-  s = c.before.before
+  s = c.before.before.before
 
   two : nat_abs s.args.q ≡ 2
   two = ap nat_abs (sym (to_z-of_z s.ranges.q) ∙ ap (to_z w64) c.if-q-eq2.true)

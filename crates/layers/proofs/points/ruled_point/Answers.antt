@@ -15,7 +15,13 @@ use Rattle.lattice.specs.Computed.{nearest_point}
 use Rattle.layers.specs.Laws.Bases.{base-divisor, digits-sized, digit_point-sized, nearest_point-sized, layer_point8-is}
 use Rattle.integers.specs.Laws.Sums.{sized-more}
 use Rattle.layers.proofs.points.ruled_point.Goals as goal
-use Rattle.layers.proofs.points.ruled_point.Goals.{After-nearest_point-n, After-point_of-p, After-widened-c, Start}
+use Rattle.layers.proofs.points.ruled_point.Goals.{After-nearest_point-n, After-widened-c, Start}
+use Rattle.layers.proofs.points.ruled_point.Lts as lts
+use Rattle.layers.proofs.points.ruled_point.Tie as tie
+use Rattle.layers.proofs.points.ruled_point.Reads as reads
+
+abbrev After-point_of-p : Type 0
+After-point_of-p = lts.After-point_of tie.the-claims reads.Pre reads.Post
 
 module _ (s : Start) where
   abbrev q : ℤ
@@ -34,11 +40,11 @@ module _ (s : Start) where
 module _ (c : After-widened-c) where
   digits-small : Sized 8 (2 ^ 30) c.widened-c.result
   digits-small = let s = c.before.before in
-      subst (Sized 8 (2 ^ 30)) (sym c.widened-c.ensures) (sized-more 8 (nat_abs (q s)) (map pos (ds s)) (digits-sized 8 (nat_abs (q s)) (ds s) s.requires.1) (2 ^ 30) (omega (arith, s.requires.0.most)))
+      subst (Sized 8 (2 ^ 30)) (sym c.widened-c.ensures) (sized-more 8 (nat_abs (q s.before)) (map pos (ds s.before)) (digits-sized 8 (nat_abs (q s.before)) (ds s.before) s.requires.1) (2 ^ 30) (omega (arith, s.requires.0.most)))
 
 module _ (c : After-point_of-p) where
   abbrev start : Start
-  start = c.before.before.before.before
+  start = c.before.before.before.before.before
 
   point-is : c.point_of-p.result ≡ point_of (map pos (ds start))
   point-is = c.point_of-p.ensures ∙ ap point_of c.before.before.widened-c.ensures
@@ -48,7 +54,7 @@ module _ (c : After-point_of-p) where
 
 module _ (c : After-nearest_point-n) where
   abbrev before : After-point_of-p
-  before = c.before.before
+  before = c.before.before.before
 
   abbrev s : Start
   s = start before

@@ -11,11 +11,16 @@ use mir.Facts.{to_z_pos}
 use Rattle.integers.specs.Laws.Sizes.{fits-abs}
 use Rattle.integers.specs.Laws.Loops.{Filled, filled_more, filled-all}
 use Rattle.layers.proofs.points.widened.Goals as goal
-use Rattle.layers.proofs.points.widened.Goals.{After-shared_slice_known-1, At-loop-k}
+use Rattle.layers.proofs.points.widened.Goals.{After-shared_slice_known-1}
+use Rattle.layers.proofs.points.widened.Lts as lts
+use Rattle.layers.proofs.points.widened.Reads as reads
+
+abbrev At-loop-k : Type 0
+At-loop-k = lts.At-loop reads.Pre reads.Post goal.the-invariant-loop-k goal.the-decreases-loop-k
 
 module _ (c : After-shared_slice_known-1) where
   abbrev l : At-loop-k
-  l = c.before.before
+  l = c.before.before.before
 
   abbrev ds : List ℕ
   ds = l.before.args.ds.now

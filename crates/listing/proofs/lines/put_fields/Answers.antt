@@ -42,7 +42,7 @@ module _ (c : In-loop-i) where
   within = c.loop-i-test.true
 
   -- there is room for it
-  roomy : next + (1 + length (written z)) ≤ length p.loop-i.out-1
+  roomy : next + (1 + length (written z)) ≤ length p.loop-i.out
   roomy = omega (arith, fields-long l i within, p.loop-i.invariant.1, p.loop-i.invariant.2, s.requires.1)
 
 pub loop-i-init : goal.loop-i-init
@@ -66,13 +66,13 @@ module _ (c : After-put_number-arg-in-loop-i-1) where
   same = let f : SFits w64 (z k) = record { sfits = c.before.put_number-arg-1.given } in to_z-of_z f
 
 pub put_number-next-requires : goal.put_number-next-requires
-put_number-next-requires c = let q = k c in rw (same c, length-set (p q).loop-i.out-1 (next q) 32) ((s q).requires.0 (i q), omega (arith, roomy q))
+put_number-next-requires c = let q = k c in rw (same c, length-set (p q).loop-i.out (next q) 32) ((s q).requires.0 (i q), omega (arith, roomy q))
 
 pub loop-i-preserved : goal.loop-i-preserved
 loop-i-preserved c =
-    let r = c.before.before in let a = r.before in let q = k a in let out = (p q).loop-i.out-1 in let w = written (z q) in
-    let room : r.put_number-next.new.out ≡ sets out (next q) (space ∷ w) = r.put_number-next.ensures.1 ∙ ap (λ (y : ℤ). sets (set out (next q) 32) (next q + 1) (written y)) (same a) ∙ ap (λ (j : ℕ). sets (set out (next q) 32) j w) (add-one (next q)) in
-    let place : r.put_number-next.result ≡ next q + (1 + length w) = r.put_number-next.ensures.0 ∙ ap (λ (y : ℤ). next q + 1 + length (written y)) (same a) ∙ omega arith in (
+    let r = c.before.before in let a = r.before in let q = k a in let out = (p q).loop-i.out in let w = written (z q) in
+    let room : r.put_number-next.new.out ≡ sets out (next q) (space ∷ w) = r.put_number-next.ensures.room ∙ ap (λ (y : ℤ). sets (set out (next q) 32) (next q + 1) (written y)) (same a) ∙ ap (λ (j : ℕ). sets (set out (next q) 32) j w) (add-one (next q)) in
+    let place : r.put_number-next.result ≡ next q + (1 + length w) = r.put_number-next.ensures.answer ∙ ap (λ (y : ℤ). next q + 1 + length (written y)) (same a) ∙ omega arith in (
       omega (arith, within q),
       ap length room ∙ length-sets out (next q) (space ∷ w) ∙ (p q).loop-i.invariant.1,
       omega (arith, (p q).loop-i.invariant.2, fields-long (l q) (i q) (within q), place),
@@ -81,7 +81,4 @@ loop-i-preserved c =
 
 pub returns : goal.returns
 returns c =
-    let p = c.before in let l = p.before.before.args.l.now in let none : fields (drop p.loop-i.i l) ≡ [] = ap fields (drop_of_length-le l {i = p.loop-i.i} c.loop-i-test.false) in (
-      omega (arith, p.loop-i.invariant.2, ap length none),
-      sym (p.loop-i.invariant.3 ∙ ap (sets p.loop-i.out-1 p.loop-i.next) none),
-    )
+    let p = c.before in let l = p.before.before.args.l.now in let none : fields (drop p.loop-i.i l) ≡ [] = ap fields (drop_of_length-le l {i = p.loop-i.i} c.loop-i-test.false) in record { answer = omega (arith, p.loop-i.invariant.2, ap length none); room = sym (p.loop-i.invariant.3 ∙ ap (sets p.loop-i.out p.loop-i.next) none) }

@@ -51,7 +51,7 @@ module _ (c : In-loop-k) where
   layer = layer_line k (take 8 (drop (8 * k) ds))
 
   -- there is room for its line
-  roomy : next + length layer ≤ length p.loop-k.out-1
+  roomy : next + length layer ≤ length p.loop-k.out
   roomy = omega (arith, layers-long ds m k within, p.loop-k.invariant.1, p.loop-k.invariant.2, s.requires.2, ap length (all-layers s))
 
 pub loop-k-init : goal.loop-k-init
@@ -72,9 +72,9 @@ put_layer-next-requires c = let q = c.before.before in
 
 pub loop-k-preserved : goal.loop-k-preserved
 loop-k-preserved c =
-    let r = c.before.before in let q = r.before.before.before in let out = (p q).loop-k.out-1 in
-    let room : r.put_layer-next.new.out ≡ sets out (next q) (layer q) = r.put_layer-next.ensures.1 ∙ ap (λ (f : List ℕ). sets out (next q) (layer_line (k q) f)) (lent q) in
-    let place : r.put_layer-next.result ≡ next q + length (layer q) = r.put_layer-next.ensures.0 ∙ ap (λ (f : List ℕ). next q + length (layer_line (k q) f)) (lent q) in (
+    let r = c.before.before in let q = r.before.before.before in let out = (p q).loop-k.out in
+    let room : r.put_layer-next.new.out ≡ sets out (next q) (layer q) = r.put_layer-next.ensures.room ∙ ap (λ (f : List ℕ). sets out (next q) (layer_line (k q) f)) (lent q) in
+    let place : r.put_layer-next.result ≡ next q + length (layer q) = r.put_layer-next.ensures.answer ∙ ap (λ (f : List ℕ). next q + length (layer_line (k q) f)) (lent q) in (
       omega (arith, within q),
       ap length room ∙ length-sets out (next q) (layer q) ∙ (p q).loop-k.invariant.1,
       omega (arith, (p q).loop-k.invariant.2, layers-long (ds q) (m q) (k q) (within q), place),
@@ -84,7 +84,4 @@ loop-k-preserved c =
 pub returns : goal.returns
 returns c =
     let p = c.before in let b = p.before.before.before in let a = b.args in let k = p.loop-k.k in let e : a.m - k ≡ 0 = omega (arith, c.loop-k-test.false) in
-    let none : layers_from a.ds.now a.m k ≡ [] = ap (λ (j : ℕ). layer_lines k (cut 8 j (drop (8 * k) a.ds.now))) e in (
-      omega (arith, p.loop-k.invariant.2, ap length none, ap length (all-layers b)),
-      sym (ap (sets a.out-1.now a.at) (all-layers b) ∙ p.loop-k.invariant.3 ∙ ap (sets p.loop-k.out-1 p.loop-k.next) none),
-    )
+    let none : layers_from a.ds.now a.m k ≡ [] = ap (λ (j : ℕ). layer_lines k (cut 8 j (drop (8 * k) a.ds.now))) e in record { answer = omega (arith, p.loop-k.invariant.2, ap length none, ap length (all-layers b)); room = sym (ap (sets a.out.now a.at) (all-layers b) ∙ p.loop-k.invariant.3 ∙ ap (sets p.loop-k.out p.loop-k.next) none) }

@@ -20,7 +20,7 @@ module _ (s : Start) where
   l = s.args.l.now
 
   abbrev o : List ℕ
-  o = s.args.out-1.now
+  o = s.args.out.now
 
   abbrev at : ℕ
   at = s.args.at
@@ -40,10 +40,10 @@ module _ (p : After-put_name-from) where
   named = p.put_name-from.new.out
 
   named-long : length named ≡ length (o s)
-  named-long = ap length p.put_name-from.ensures.1 ∙ length-sets (o s) (at s) (name s)
+  named-long = ap length p.put_name-from.ensures.room ∙ length-sets (o s) (at s) (name s)
 
 pub put_fields-end-requires : goal.put_fields-end-requires
-put_fields-end-requires c = let p = c.before.before.before in ((s p).requires.0, omega (arith, long (s p), (s p).requires.1, p.put_name-from.ensures.0, named-long p))
+put_fields-end-requires c = let p = c.before.before.before in ((s p).requires.0, omega (arith, long (s p), (s p).requires.1, p.put_name-from.ensures.answer, named-long p))
 
 -- and the fields
 module _ (f : After-put_fields-end) where
@@ -57,10 +57,10 @@ module _ (f : After-put_fields-end) where
   filled = f.put_fields-end.new.out
 
   filled-long : length filled ≡ length (o b)
-  filled-long = ap length f.put_fields-end.ensures.1 ∙ length-sets (named p) p.put_name-from.result (fields (l b)) ∙ named-long p
+  filled-long = ap length f.put_fields-end.ensures.room ∙ length-sets (named p) p.put_name-from.result (fields (l b)) ∙ named-long p
 
   left : suc f.put_fields-end.result ≤ length (o b)
-  left = omega (arith, f.put_fields-end.ensures.0, p.put_name-from.ensures.0, long b, b.requires.1)
+  left = omega (arith, f.put_fields-end.ensures.answer, p.put_name-from.ensures.answer, long b, b.requires.1)
 
 pub bounds-out-end : goal.bounds-out-end
 bounds-out-end c = let f = c.before.before in omega (arith, left f, filled-long f)
@@ -72,8 +72,5 @@ pub shape_of-out : goal.shape_of-out
 shape_of-out c = let f = c.before.before in length-set (filled f) f.put_fields-end.result 10 ∙ filled-long f
 
 pub returns : goal.returns
-returns c = let f = c.before.before in let q = p f in let v = b f in (
-  omega (arith, f.put_fields-end.ensures.0, q.put_name-from.ensures.0, long v),
-  sym (put_next (o v) (at v) (name v) (fields (l v) ++ (newline ∷ [])) (named q) _ q.put_name-from.ensures.1 q.put_name-from.ensures.0
-      ∙ put_next (named q) q.put_name-from.result (fields (l v)) (newline ∷ []) (filled f) _ f.put_fields-end.ensures.1 f.put_fields-end.ensures.0),
-)
+returns c = let f = c.before.before in let q = p f in let v = b f in record { answer = omega (arith, f.put_fields-end.ensures.answer, q.put_name-from.ensures.answer, long v); room = sym (put_next (o v) (at v) (name v) (fields (l v) ++ (newline ∷ [])) (named q) _ q.put_name-from.ensures.room q.put_name-from.ensures.answer
+      ∙ put_next (named q) q.put_name-from.result (fields (l v)) (newline ∷ []) (filled f) _ f.put_fields-end.ensures.room f.put_fields-end.ensures.answer) }

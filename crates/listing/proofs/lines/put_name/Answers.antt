@@ -34,4 +34,4 @@ overflow_add-result c = let l = c.before in record { fits = omega (arith, l.loop
 
 pub returns : goal.returns
 returns c = let l = c.before in let a = l.before.args in
-    (omega (arith, l.loop-i.invariant.0, c.loop-i-test.false), l.loop-i.invariant.2 ∙ ap (sets a.out.now a.at) (take_all l.loop-i.i a.name.now c.loop-i-test.false))
+    record { answer = omega (arith, l.loop-i.invariant.0, c.loop-i-test.false); room = l.loop-i.invariant.2 ∙ ap (sets a.out.now a.at) (take_all l.loop-i.i a.name.now c.loop-i-test.false) }

@@ -26,7 +26,7 @@ module _ (s : Start) where
   at = s.args.at
 
   abbrev o : List ℕ
-  o = s.args.out-1.now
+  o = s.args.out.now
 
   same : to_z w64 (of_z w64 z) ≡ z
   same = to_z-of_z s.ranges.z
@@ -68,13 +68,10 @@ pub put_decimal-requires : goal.put_decimal-requires
 put_decimal-requires c = let t = c.before in rw (cast t, length-set (o (s t)) (at (s t)) 45) (omega (arith, long t, (s t).requires.1))
 
 pub shape_of-out-then-z-lt0 : goal.shape_of-out-then-z-lt0
-shape_of-out-then-z-lt0 c = let p = c.before.before in let b = s p.before.before in ap length p.put_decimal.ensures.1 ∙ length-sets (set (o b) (at b) 45) (at b + 1) (decimal _) ∙ length-set (o b) (at b) 45
+shape_of-out-then-z-lt0 c = let p = c.before.before in let b = s p.before.before in ap length p.put_decimal.ensures.room ∙ length-sets (set (o b) (at b) 45) (at b + 1) (decimal _) ∙ length-set (o b) (at b) 45
 
 pub returns-then-z-lt0 : goal.returns-then-z-lt0
-returns-then-z-lt0 c = let p = c.before.before in let t = p.before.before in let b = s t in (
-  omega (arith, p.put_decimal.ensures.0, ap (λ (y : ℤ). length (decimal (nat_abs y))) (cast t), long t),
-  p.put_decimal.ensures.1 ∙ ap₂ (λ (y : ℤ) (j : ℕ). sets (set (o b) (at b) 45) j (decimal (nat_abs y))) (cast t) (add-one (at b)) ∙ ap (sets (o b) (at b)) (sym (sign t).is),
-)
+returns-then-z-lt0 c = let p = c.before.before in let t = p.before.before in let b = s t in record { answer = omega (arith, p.put_decimal.ensures.answer, ap (λ (y : ℤ). length (decimal (nat_abs y))) (cast t), long t); room = p.put_decimal.ensures.room ∙ ap₂ (λ (y : ℤ) (j : ℕ). sets (set (o b) (at b) 45) j (decimal (nat_abs y))) (cast t) (add-one (at b)) ∙ ap (sets (o b) (at b)) (sym (sign t).is) }
 
 -- or not
 module _ (c : Else-z-lt0) where
@@ -91,7 +88,4 @@ pub put_decimal-requires-2 : goal.put_decimal-requires-2
 put_decimal-requires-2 c = let e = c.before in rw (same (b e)) (omega (arith, ap length (plain e).is, (b e).requires.1))
 
 pub returns : goal.returns
-returns c = let p = c.before.before in let e = p.before.before in let a = b e in (
-  omega (arith, p.put_decimal-2.ensures.0, ap (λ (y : ℤ). length (decimal (nat_abs y))) (same a), ap length (plain e).is),
-  p.put_decimal-2.ensures.1 ∙ ap (λ (y : ℤ). sets (o a) (at a) (decimal (nat_abs y))) (same a) ∙ ap (sets (o a) (at a)) (sym (plain e).is),
-)
+returns c = let p = c.before.before in let e = p.before.before in let a = b e in record { answer = omega (arith, p.put_decimal-2.ensures.answer, ap (λ (y : ℤ). length (decimal (nat_abs y))) (same a), ap length (plain e).is); room = p.put_decimal-2.ensures.room ∙ ap (λ (y : ℤ). sets (o a) (at a) (decimal (nat_abs y))) (same a) ∙ ap (sets (o a) (at a)) (sym (plain e).is) }

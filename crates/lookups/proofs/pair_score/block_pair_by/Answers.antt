@@ -23,14 +23,8 @@ use Rattle.lookups.specs.Scoring.{pair_entry, block_pair_by}
 use Rattle.tables.specs.Tables.{part_size}
 use Rattle.lookups.proofs.pair_score.block_pair_by.Goals as goal
 use Rattle.lookups.proofs.pair_score.block_pair_by.Goals.{After-entry_number-from, After-entry_numbers-numbers, After-row_sum, After-step_of-2, At-loop-i, In-loop-i, Start}
-
--- a row's sum is at most 128 times 2^4
-abbrev B : ℕ
-B = 2 ^ 7 * 2 ^ 4
-
--- the sum of a layer's entries with the layers of another block
-abbrev row_sum : List ℤ → ℕ → List ℕ → List ℕ → ℤ
-row_sum t m b' d = power_sum 2 (map (pair_entry t d) (cut 8 m (drop 1 b')))
+use Rattle.lookups.proofs.pair_score.block_pair_by.Invariants.{B}
+use Rattle.lookups.proofs.pair_score.block_pair_by.Invariants.{row_sum}
 
 module _ (s : Start) where
   abbrev m : ℕ
@@ -80,7 +74,7 @@ module _ (c : In-loop-i) where
   i = l.loop-i.i
 
   abbrev z : ℤ
-  z = to_z w64 l.loop-i.z
+  z = to_z w64 l.loop-i.z-bits
 
   abbrev j : ℕ
   j = i - 1
@@ -137,7 +131,7 @@ module _ (c : After-row_sum) where
 
   x-is : x ≡ row_sum (t a) (m a) (b' a) (digits g)
   x-is =
-      c.row_sum.ensures.0
+      c.row_sum.ensures.value
       ∙ ap₂ (λ (w : ℕ) (ns : List ℕ). power_sum 2 (map («at» (take w (drop (256 * n e) (t a)))) ns)) (whole e) (numbers-are (l g).before)
       ∙ ap (λ (n : ℕ). power_sum 2 (map («at» (take 256 (drop (256 * n) (t a)))) (map (entry_of 2) (cut 8 (m a) (drop 1 (b' a)))))) (n-is e)
       ∙ row-sum-is (t a) (digits g) (m a) (cut 8 (m a) (drop 1 (b' a))) (layers a)
@@ -147,7 +141,7 @@ module _ (c : After-row_sum) where
 
   more : Summed 2 B (all a) (j g) (x +ℤ pos 2 *ℤ z g)
   more = summed-more 2 B (all a) (i g) (z g) (l g).loop-i.invariant (omega arith) g.loop-i-test.true x
-      (x-is ∙ sym (terms-at (row_sum (t a) (m a) (b' a)) (m a) (drop 1 (b a)) (j g) (within g))) c.row_sum.ensures.1
+      (x-is ∙ sym (terms-at (row_sum (t a) (m a) (b' a)) (m a) (drop 1 (b a)) (j g) (within g))) c.row_sum.ensures.small
 
   more-fits : SFits w64 (x +ℤ pos 2 *ℤ z g)
   more-fits = fits-abs _ (omega (arith, small a (j g) (x +ℤ pos 2 *ℤ z g) more))
@@ -167,7 +161,7 @@ module _ (c : After-step_of-2) where
   p' = c.step_of-2.result
 
   abbrev y : ℤ
-  y = to_z w64 h.loop-i.z
+  y = to_z w64 h.loop-i.z-bits
 
   p-fits : SFits w64 p
   p-fits = record { sfits = c.before.step_of_lem.type_inv }
@@ -266,4 +260,4 @@ pub overflow_mul-result-2 : goal.overflow_mul-result-2
 overflow_mul-result-2 c = simp (to_z-of_z, p-fits c, p'-fits c, both-fits c) (value-fits c)
 
 pub returns : goal.returns
-returns c = simp (to_z-of_z, p-fits c, p'-fits c, both-fits c, value-fits c) (value-is c, value-small c)
+returns c = simp (to_z-of_z, p-fits c, p'-fits c, both-fits c, value-fits c) record { value = value-is c; small = value-small c }

@@ -16,10 +16,7 @@ use Rattle.layers.specs.Laws.Rows.{below_at}
 use Rattle.lookups.specs.Laws.Sums.{Summed, summed-none, summed-more, summed-most, summed-all, two-power, read_small}
 use Rattle.lookups.proofs.pair_score.row_sum.Goals as goal
 use Rattle.lookups.proofs.pair_score.row_sum.Goals.{After-z-in-loop-i-1, In-loop-i, Start}
-
--- the entries in m places
-abbrev terms : List ℤ → List ℕ → ℕ → List ℤ
-terms row numbers m = map («at» row) (take m numbers)
+use Rattle.lookups.proofs.pair_score.row_sum.Invariants.{terms}
 
 module _ (s : Start) where
   abbrev m : ℕ
@@ -52,7 +49,7 @@ module _ (l : In-loop-i) where
   i = l.before.loop-i.i
 
   abbrev z : ℤ
-  z = to_z w64 l.before.loop-i.z-1
+  z = to_z w64 l.before.loop-i.z-bits
 
   abbrev j : ℕ
   j = i - 1
@@ -118,4 +115,4 @@ loop-i-preserved c = simp (to_z-of_z, x_fits c, x-wide c, above-fits c, more-fit
 
 pub returns : goal.returns
 returns c = let l = c.before in let s = l.before in let none : l.loop-i.i ≡ 0 = omega (arith, c.loop-i-test.false) in
-    (summed-all 2 (2 ^ 7) (all s) l.loop-i.i _ l.loop-i.invariant none, small s l.loop-i.i _ l.loop-i.invariant)
+    record { value = summed-all 2 (2 ^ 7) (all s) l.loop-i.i _ l.loop-i.invariant none; small = small s l.loop-i.i _ l.loop-i.invariant }

@@ -16,6 +16,10 @@ use Rattle.layers.specs.Laws.Rows.{below_at}
 use Rattle.lookups.specs.Laws.Sums.{Summed, summed-none, summed-more, summed-most, summed-all, two-power, read_small}
 use Rattle.lookups.proofs.pair_score.row_sum.Given as goal
 
+-- the entries in m places
+abbrev pub terms : List ℤ → List ℕ → ℕ → List ℤ
+terms row numbers m = map («at» row) (take m numbers)
+
 abbrev pub invariant-loop-i : goal.invariant-loop-i
 invariant-loop-i l = Summed 2 (2 ^ 7) (terms l.row l.numbers l.m) l.i l.z
 

@@ -39,7 +39,7 @@ module _ (l : At-loop-i) where
   i = l.loop-i.i
 
   abbrev z : ℤ
-  z = to_z w64 l.loop-i.z
+  z = to_z w64 l.loop-i.z-bits
 
   abbrev n : ℕ
   n = l.before.block_size-n.result
@@ -90,11 +90,11 @@ module _ (c : After-block_pair_by-z) where
 
   more-is : z t +ℤ y ≡ sum t (i t + 1)
   more-is =
-      ap₂ ◌+ℤ◌ t.loop-i.invariant.1 (c.block_pair_by-z.ensures.0 ∙ ap₂ (f t) (block-is t (body t)) (block-is t (body' t)))
+      ap₂ ◌+ℤ◌ t.loop-i.invariant.1 (c.block_pair_by-z.ensures.value ∙ ap₂ (f t) (block-is t (body t)) (block-is t (body' t)))
       ∙ sym (parts_more (f t) (block_size (m t)) (block_size (m t)) (body t) (body' t) (i t))
 
   more-small : nat_abs (z t +ℤ y) ≤ (i t + 1) * 2 ^ 35
-  more-small = omega (arith, abs-add (z t) y, t.loop-i.invariant.2, c.block_pair_by-z.ensures.1)
+  more-small = omega (arith, abs-add (z t) y, t.loop-i.invariant.2, c.block_pair_by-z.ensures.small)
 
   more-fits : SFits w64 (z t +ℤ y)
   more-fits = fits-abs _ (omega (arith, more-small, (s t).requires.5, b.loop-i-test.true))

@@ -21,10 +21,7 @@ use Rattle.lookups.specs.Laws.Sums.{Summed, summed-none, summed-more, summed-mos
 use Rattle.lookups.specs.Scoring.{block_query_by}
 use Rattle.lookups.proofs.query_score.block_query_by.Goals as goal
 use Rattle.lookups.proofs.query_score.block_query_by.Goals.{After-entry_number-n, After-step_of, After-z-1, At-loop-i, In-loop-i, Start}
-
--- the entry of a layer in the part p
-abbrev entry : ℕ → List ℤ → List ℕ → ℤ
-entry q p ds = «at» p (entry_of q ds)
+use Rattle.lookups.proofs.query_score.block_query_by.Invariants.{entry}
 
 module _ (l : At-loop-i) where
   abbrev s : Start
@@ -46,7 +43,7 @@ module _ (l : At-loop-i) where
   i = l.loop-i.i
 
   abbrev z : ℤ
-  z = to_z w64 l.loop-i.z-1
+  z = to_z w64 l.loop-i.z-bits
 
   abbrev all : List ℤ
   all = terms (entry q p) m (drop 1 b)
@@ -197,4 +194,4 @@ pub overflow_mul-result : goal.overflow_mul-result
 overflow_mul-result c = simp (to_z-of_z, step_fits c) (value-fits c)
 
 pub returns : goal.returns
-returns c = simp (to_z-of_z, step_fits c, value-fits c) (value-is c, value-small c)
+returns c = simp (to_z-of_z, step_fits c, value-fits c) record { value = value-is c; small = value-small c }

@@ -21,6 +21,10 @@ use Rattle.lookups.specs.Laws.Sums.{Summed, summed-none, summed-more, summed-mos
 use Rattle.lookups.specs.Scoring.{block_query_by}
 use Rattle.lookups.proofs.query_score.block_query_by.Given as goal
 
+-- the entry of a layer in the part p
+abbrev pub entry : ℕ → List ℤ → List ℕ → ℤ
+entry q p ds = «at» p (entry_of q ds)
+
 abbrev pub invariant-loop-i : goal.invariant-loop-i
 invariant-loop-i l = Summed (nat_abs l.q) (2 ^ 31) (terms (entry (nat_abs l.q) l.part) l.m (drop 1 l.b)) l.i l.z
 

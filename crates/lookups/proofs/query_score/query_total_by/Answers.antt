@@ -71,7 +71,7 @@ module _ (c : Then-q-eq3) where
 
 -- q is 3 and M is 4
 most₃ : (c : Else-m-eq3-2) → (s₃ c.before.before.before).args.m ≡ 4
-most₃ c = last-layers _ (s₃ c.before.before.before).requires.0.few c.before.before.before.before.before.if-m-eq0.false c.before.before.if-m-eq1-2.false c.before.if-m-eq2-2.false c.if-m-eq3-2.false
+most₃ c = last-layers _ (s₃ c.before.before.before).requires.0.few c.before.before.before.before.before.if-m-eq0.false c.before.before.if7.false c.before.if8.false c.if9.false
 
 -- q is 4
 module _ (c : Else-q-eq3) where
@@ -83,7 +83,7 @@ module _ (c : Else-q-eq3) where
 
 -- q is 4 and M is 4
 most₄ : (c : Else-m-eq3-3) → (s₄ c.before.before.before).args.m ≡ 4
-most₄ c = last-layers _ (s₄ c.before.before.before).requires.0.few c.before.before.before.before.before.if-m-eq0.false c.before.before.if-m-eq1-3.false c.before.if-m-eq2-3.false c.if-m-eq3-3.false
+most₄ c = last-layers _ (s₄ c.before.before.before).requires.0.few c.before.before.before.before.before.if-m-eq0.false c.before.before.if10.false c.before.if11.false c.if12.false
 
 pub returns-then-m-eq0 : goal.returns-then-m-eq0
 returns-then-m-eq0 c = let s = c.before.before in sym (ap (sum s s.args.q) c.if-m-eq0.true ∙ query-none (nat_abs s.args.q) s.args.steps.now (cut (part_size (nat_abs s.args.q)) s.args.k s.args.table.now) (cut (block_size 0) s.args.k s.args.body.now))
@@ -113,22 +113,22 @@ pub returns-then-q-eq2 : goal.returns-then-q-eq2
 returns-then-q-eq2 c = let b = c.before in answered (s₂ b.before.before.before) (pos 2) 4 (two b.before.before.before) (most₂ b) c.total_by-then-q-eq2.result (record { sfits = c.total_by-then-q-eq2.type_inv }) c.total_by-then-q-eq2.ensures
 
 pub total_by-requires-then-m-eq1-2 : goal.total_by-requires-then-m-eq1-2
-total_by-requires-then-m-eq1-2 c = asked (s₃ c.before) (pos 3) 1 (three c.before) c.if-m-eq1-2.true
+total_by-requires-then-m-eq1-2 c = asked (s₃ c.before) (pos 3) 1 (three c.before) c.if7.true
 
 pub returns-then-m-eq1-2 : goal.returns-then-m-eq1-2
-returns-then-m-eq1-2 c = let b = c.before in answered (s₃ b.before) (pos 3) 1 (three b.before) b.if-m-eq1-2.true c.total_by-then-m-eq1-2.result (record { sfits = c.total_by-then-m-eq1-2.type_inv }) c.total_by-then-m-eq1-2.ensures
+returns-then-m-eq1-2 c = let b = c.before in answered (s₃ b.before) (pos 3) 1 (three b.before) b.if7.true c.total_by-then-m-eq1-2.result (record { sfits = c.total_by-then-m-eq1-2.type_inv }) c.total_by-then-m-eq1-2.ensures
 
 pub total_by-requires-then-m-eq2-2 : goal.total_by-requires-then-m-eq2-2
-total_by-requires-then-m-eq2-2 c = asked (s₃ c.before.before) (pos 3) 2 (three c.before.before) c.if-m-eq2-2.true
+total_by-requires-then-m-eq2-2 c = asked (s₃ c.before.before) (pos 3) 2 (three c.before.before) c.if8.true
 
 pub returns-then-m-eq2-2 : goal.returns-then-m-eq2-2
-returns-then-m-eq2-2 c = let b = c.before in answered (s₃ b.before.before) (pos 3) 2 (three b.before.before) b.if-m-eq2-2.true c.total_by-then-m-eq2-2.result (record { sfits = c.total_by-then-m-eq2-2.type_inv }) c.total_by-then-m-eq2-2.ensures
+returns-then-m-eq2-2 c = let b = c.before in answered (s₃ b.before.before) (pos 3) 2 (three b.before.before) b.if8.true c.total_by-then-m-eq2-2.result (record { sfits = c.total_by-then-m-eq2-2.type_inv }) c.total_by-then-m-eq2-2.ensures
 
 pub total_by-requires-then-m-eq3-2 : goal.total_by-requires-then-m-eq3-2
-total_by-requires-then-m-eq3-2 c = asked (s₃ c.before.before.before) (pos 3) 3 (three c.before.before.before) c.if-m-eq3-2.true
+total_by-requires-then-m-eq3-2 c = asked (s₃ c.before.before.before) (pos 3) 3 (three c.before.before.before) c.if9.true
 
 pub returns-then-m-eq3-2 : goal.returns-then-m-eq3-2
-returns-then-m-eq3-2 c = let b = c.before in answered (s₃ b.before.before.before) (pos 3) 3 (three b.before.before.before) b.if-m-eq3-2.true c.total_by-then-m-eq3-2.result (record { sfits = c.total_by-then-m-eq3-2.type_inv }) c.total_by-then-m-eq3-2.ensures
+returns-then-m-eq3-2 c = let b = c.before in answered (s₃ b.before.before.before) (pos 3) 3 (three b.before.before.before) b.if9.true c.total_by-then-m-eq3-2.result (record { sfits = c.total_by-then-m-eq3-2.type_inv }) c.total_by-then-m-eq3-2.ensures
 
 pub total_by-requires-then-q-eq3 : goal.total_by-requires-then-q-eq3
 total_by-requires-then-q-eq3 c = asked (s₃ c.before.before.before) (pos 3) 4 (three c.before.before.before) (most₃ c)
@@ -137,22 +137,22 @@ pub returns-then-q-eq3 : goal.returns-then-q-eq3
 returns-then-q-eq3 c = let b = c.before in answered (s₃ b.before.before.before) (pos 3) 4 (three b.before.before.before) (most₃ b) c.total_by-then-q-eq3.result (record { sfits = c.total_by-then-q-eq3.type_inv }) c.total_by-then-q-eq3.ensures
 
 pub total_by-requires-then-m-eq1-3 : goal.total_by-requires-then-m-eq1-3
-total_by-requires-then-m-eq1-3 c = asked (s₄ c.before) (pos 4) 1 (four c.before) c.if-m-eq1-3.true
+total_by-requires-then-m-eq1-3 c = asked (s₄ c.before) (pos 4) 1 (four c.before) c.if10.true
 
 pub returns-then-m-eq1-3 : goal.returns-then-m-eq1-3
-returns-then-m-eq1-3 c = let b = c.before in answered (s₄ b.before) (pos 4) 1 (four b.before) b.if-m-eq1-3.true c.total_by-then-m-eq1-3.result (record { sfits = c.total_by-then-m-eq1-3.type_inv }) c.total_by-then-m-eq1-3.ensures
+returns-then-m-eq1-3 c = let b = c.before in answered (s₄ b.before) (pos 4) 1 (four b.before) b.if10.true c.total_by-then-m-eq1-3.result (record { sfits = c.total_by-then-m-eq1-3.type_inv }) c.total_by-then-m-eq1-3.ensures
 
 pub total_by-requires-then-m-eq2-3 : goal.total_by-requires-then-m-eq2-3
-total_by-requires-then-m-eq2-3 c = asked (s₄ c.before.before) (pos 4) 2 (four c.before.before) c.if-m-eq2-3.true
+total_by-requires-then-m-eq2-3 c = asked (s₄ c.before.before) (pos 4) 2 (four c.before.before) c.if11.true
 
 pub returns-then-m-eq2-3 : goal.returns-then-m-eq2-3
-returns-then-m-eq2-3 c = let b = c.before in answered (s₄ b.before.before) (pos 4) 2 (four b.before.before) b.if-m-eq2-3.true c.total_by-then-m-eq2-3.result (record { sfits = c.total_by-then-m-eq2-3.type_inv }) c.total_by-then-m-eq2-3.ensures
+returns-then-m-eq2-3 c = let b = c.before in answered (s₄ b.before.before) (pos 4) 2 (four b.before.before) b.if11.true c.total_by-then-m-eq2-3.result (record { sfits = c.total_by-then-m-eq2-3.type_inv }) c.total_by-then-m-eq2-3.ensures
 
 pub total_by-requires-then-m-eq3-3 : goal.total_by-requires-then-m-eq3-3
-total_by-requires-then-m-eq3-3 c = asked (s₄ c.before.before.before) (pos 4) 3 (four c.before.before.before) c.if-m-eq3-3.true
+total_by-requires-then-m-eq3-3 c = asked (s₄ c.before.before.before) (pos 4) 3 (four c.before.before.before) c.if12.true
 
 pub returns-then-m-eq3-3 : goal.returns-then-m-eq3-3
-returns-then-m-eq3-3 c = let b = c.before in answered (s₄ b.before.before.before) (pos 4) 3 (four b.before.before.before) b.if-m-eq3-3.true c.total_by-then-m-eq3-3.result (record { sfits = c.total_by-then-m-eq3-3.type_inv }) c.total_by-then-m-eq3-3.ensures
+returns-then-m-eq3-3 c = let b = c.before in answered (s₄ b.before.before.before) (pos 4) 3 (four b.before.before.before) b.if12.true c.total_by-then-m-eq3-3.result (record { sfits = c.total_by-then-m-eq3-3.type_inv }) c.total_by-then-m-eq3-3.ensures
 
 pub total_by-requires-2 : goal.total_by-requires-2
 total_by-requires-2 c = asked (s₄ c.before.before.before) (pos 4) 4 (four c.before.before.before) (most₄ c)

@@ -48,7 +48,7 @@ module _ (l : At-loop-i) where
   i = l.loop-i.i
 
   abbrev z : ℤ
-  z = to_z w64 l.loop-i.z
+  z = to_z w64 l.loop-i.z-bits
 
   abbrev f : List ℤ → List ℕ → ℤ
   f = block_query_by q m steps
@@ -116,11 +116,11 @@ module _ (c : After-block_query_by-z) where
 
   more-is : z t +ℤ y ≡ sum t (i t + 1)
   more-is =
-      ap₂ ◌+ℤ◌ (sum_is t) ((simp (to_z-of_z, (s t).ranges.q) at c.block_query_by-z.ensures.0) ∙ ap₂ (f t) (part-is b) (block-is b))
+      ap₂ ◌+ℤ◌ (sum_is t) ((simp (to_z-of_z, (s t).ranges.q) at c.block_query_by-z.ensures.value) ∙ ap₂ (f t) (part-is b) (block-is b))
       ∙ sym (parts_more (f t) (part_size (q t)) (block_size (m t)) (table t) (body t) (i t))
 
   more-small : nat_abs (z t +ℤ y) ≤ (i t + 1) * 2 ^ 53
-  more-small = omega (arith, abs-add (z t) y, t.loop-i.invariant.2, c.block_query_by-z.ensures.1)
+  more-small = omega (arith, abs-add (z t) y, t.loop-i.invariant.2, c.block_query_by-z.ensures.small)
 
   more-fits : SFits w64 (z t +ℤ y)
   more-fits = fits-abs _ (omega (arith, more-small, (s t).requires.4, b.loop-i-test.true))

@@ -37,7 +37,4 @@ overflow_sub-result c = let start = c.before in omega (arith, power start, pow_p
 pub returns : goal.returns
 returns c =
     let start = c.before in let sum = m start + m start + 2 ^ k start in
-    rw (power start, c.half_less.ensures.0, twice start) (
-      le_trans (div-le_self (sum - cond start.args.negative 0 1) (2 ^ k start + 2 ^ k start)) (omega (arith, top start, start.requires.0)),
-      sym (nearest-signed (m start) (2 ^ k start) (pow_pos (k start)) start.args.negative),
-    )
+    rw (power start, c.half_less.ensures.0, twice start) record { small = le_trans (div-le_self (sum - cond start.args.negative 0 1) (2 ^ k start + 2 ^ k start)) (omega (arith, top start, start.requires.0)); nearest = sym (nearest-signed (m start) (2 ^ k start) (pow_pos (k start)) start.args.negative) }

@@ -17,5 +17,5 @@ pub returns : goal.returns
 returns c =
     let bits = c.before.before.before.args.bits in
     let fits : SFits w32 c.with_sign.result = record { sfits = c.with_sign.type_inv } in
-    ap measure_units (to_z-of_z fits ∙ c.with_sign.ensures ∙ c.before.nearest_size.ensures.1)
+    ap measure_units (to_z-of_z fits ∙ c.with_sign.ensures ∙ c.before.nearest_size.ensures.nearest)
     ∙ sym (pattern-shifted bits (141 - bits % 2147483648 / 8388608) (omega arith) (omega arith) (omega arith))

@@ -21,9 +21,9 @@ value c = simp (to_z-of_z, (start c).ranges.s, (start c).ranges.e) at c.decoded_
 pub float_to_bits-decoded_value : goal.float_to_bits-decoded_value
 float_to_bits-decoded_value c =
     let z = (start c).args.s *ℤ (start c).args.e in
-    subst (λ (x : Float). T (not (is_nan x))) (sym (value c)) (exactly-number (fraction z 2048) z 2048 (fraction-exact z 11 (start c).requires.1 (lit≤ tt)))
+    subst (λ (x : Float). T (not (is_nan x))) (sym (value c)) (exactly-number (fraction z 2048) z 2048 (fraction-exact z 11 (start c).requires.e_bound (lit≤ tt)))
 
 pub returns : goal.returns
 returns c =
-    let p = c.before.before in let a = (start p.before).args in
-    p.put_word.ensures ∙ ap (λ (x : Float). put_word a.b-1.now a.i (to_bits binary32 x)) (value p.before)
+    let p = c.before.before in let a = (start p.before.before).args in
+    p.put_word.ensures ∙ ap (λ (x : Float). put_word a.b.now a.i (to_bits binary32 x)) (value p.before.before)

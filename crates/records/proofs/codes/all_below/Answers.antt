@@ -12,12 +12,18 @@ use Rattle.records.specs.Codes.{block_bytes}
 use Rattle.records.specs.Laws.Glance.{Raising, Glanced, raising-none, raising-more, glanced-none, glanced-more, glanced-all}
 use Rattle.records.specs.Laws.Parts.{part-ends}
 use Rattle.records.proofs.codes.all_below.Goals as goal
-use Rattle.records.proofs.codes.all_below.Goals.{At-loop-i, In-loop-i, In-loop-j, Start}
+use Rattle.records.proofs.codes.all_below.Goals.{In-loop-i, In-loop-j, Start}
+use Rattle.records.proofs.codes.all_below.Lts as lts
+use Rattle.records.proofs.codes.all_below.Tie as tie
+use Rattle.records.proofs.codes.all_below.Reads as reads
+
+abbrev At-loop-i : Type 0
+At-loop-i = lts.At-loop tie.the-claims reads.Pre reads.Post goal.the-invariant-loop-j goal.the-decreases-loop-j goal.the-invariant-loop-i goal.the-decreases-loop-i
 
 -- block i
 module _ (c : In-loop-i) where
   abbrev b : At-loop-i
-  b = c.before
+  b = c.before.before
 
   abbrev s : Start
   s = b.before.before.before
@@ -67,7 +73,7 @@ pub overflow_add-faults : goal.overflow_add-faults
 overflow_add-faults c = let p = c.before.before in omega (arith, (b p).loop-i.invariant.few, p.loop-i-test.true, c.fault-faults.ensures.0)
 
 pub loop-j-init : goal.loop-j-init
-loop-j-init c = let p = c.before.before in raising-none (f p) (n p * i p + 1) (b p).loop-i.top-1 (b p).loop-i.invariant.long
+loop-j-init c = let p = c.before.before in raising-none (f p) (n p * i p + 1) (b p).loop-i.top (b p).loop-i.invariant.long
 
 pub overflow_add-at : goal.overflow_add-at
 overflow_add-at c = omega (arith, layer-ends c.before)
@@ -82,19 +88,19 @@ pub raised-top-requires : goal.raised-top-requires
 raised-top-requires c = (c.before.before.loop-j.invariant.long, omega (arith, layer-ends c.before))
 
 pub loop-j-preserved : goal.loop-j-preserved
-loop-j-preserved c = let l = c.before.before in let o = l.before.loop-j in raising-more (f (p l)) (n (p l) * i (p l) + 1) (b (p l)).loop-i.top-1 o.j o.top-1 c.raised-top.result c.raised-top.ensures o.invariant
+loop-j-preserved c = let l = c.before.before in let o = l.before.loop-j in raising-more (f (p l)) (n (p l) * i (p l) + 1) (b (p l)).loop-i.top o.j o.top c.raised-top.result c.raised-top.ensures o.invariant
 
 pub loop-i-preserved : goal.loop-i-preserved
 loop-i-preserved c = let l = c.before in let g = l.before in let p = g.before.before in
-    glanced-more (s p).args.steps (n p) (m p) (f p) (i p) (b p).loop-i.faults g.fault-faults.result l.loop-j.j (b p).loop-i.top-1 l.loop-j.top-1 g.fault-faults.ensures.0 g.fault-faults.ensures.1 (omega arith) l.loop-j.invariant (b p).loop-i.invariant
+    glanced-more (s p).args.steps (n p) (m p) (f p) (i p) (b p).loop-i.faults g.fault-faults.result l.loop-j.j (b p).loop-i.top l.loop-j.top g.fault-faults.ensures.0 g.fault-faults.ensures.1 (omega arith) l.loop-j.invariant (b p).loop-i.invariant
 
 pub slice_bounds-greatest-end : goal.slice_bounds-greatest-end
 slice_bounds-greatest-end c = sym c.before.before.before.loop-i.invariant.long
 
 pub returns-then-faults-eq0 : goal.returns-then-faults-eq0
 returns-then-faults-eq0 c = λ e. let y = c.before.before.if-faults-eq0.true in let l = c.before.before.before.before in let a = l.before.before.before.args in let o = l.loop-i in
-    glanced-all a.steps a.q a.m a.k o.i a.body.now o.top-1 l.before.before.before.requires.1 (omega arith) (below_more (suc c.greatest.result) a.q (ltb-true c.greatest.result a.q e) o.top-1 c.greatest.ensures)
-    (subst (λ (n : ℕ). Glanced a.steps n a.m a.body.now o.i 0 o.top-1) l.before.block_size-n.ensures (subst (λ (z : ℕ). Glanced a.steps l.before.block_size-n.result a.m a.body.now o.i z o.top-1) y o.invariant))
+    glanced-all a.steps a.q a.m a.k o.i a.body.now o.top l.before.before.before.requires.1 (omega arith) (below_more (suc c.greatest.result) a.q (ltb-true c.greatest.result a.q e) o.top c.greatest.ensures)
+    (subst (λ (n : ℕ). Glanced a.steps n a.m a.body.now o.i 0 o.top) l.before.block_size-n.ensures (subst (λ (z : ℕ). Glanced a.steps l.before.block_size-n.result a.m a.body.now o.i z o.top) y o.invariant))
 
 pub returns-else-faults-eq0 : goal.returns-else-faults-eq0
 returns-else-faults-eq0 c = λ e. absurd (false≢true e)

@@ -16,11 +16,17 @@ use Rattle.coding.specs.Answers.{check_below}
 use Rattle.records.specs.Codes.{check_block}
 use Rattle.records.specs.Laws.Codes.{block-opened}
 use Rattle.records.proofs.codes.check_block.Goals as goal
-use Rattle.records.proofs.codes.check_block.Goals.{After-wide, Start}
+use Rattle.records.proofs.codes.check_block.Goals.{Start}
+use Rattle.records.proofs.codes.check_block.Lts as lts
+use Rattle.records.proofs.codes.check_block.Tie as tie
+use Rattle.records.proofs.codes.check_block.Reads as reads
+
+abbrev After-wide : Type 0
+After-wide = lts.After-wide tie.the-claims reads.Pre reads.Post
 
 module _ (c : After-wide) where
   abbrev s : Start
-  s = c.before.before.before
+  s = c.before.before.before.before
 
   abbrev b : List ℕ
   b = s.args.b.now

@@ -13,12 +13,18 @@ use Rattle.records.specs.Codes.{check_block, check_blocks}
 use Rattle.records.specs.Laws.Codes.{blocks-opened}
 use Rattle.records.specs.Laws.Parts.{part-ends, cut-whole}
 use Rattle.records.proofs.codes.first_fault.Goals as goal
-use Rattle.records.proofs.codes.first_fault.Goals.{After-check_block, In-loop-i, Start}
+use Rattle.records.proofs.codes.first_fault.Goals.{After-check_block, Start}
+use Rattle.records.proofs.codes.first_fault.Lts as lts
+use Rattle.records.proofs.codes.first_fault.Tie as tie
+use Rattle.records.proofs.codes.first_fault.Reads as reads
+
+abbrev In-loop-i : Type 0
+In-loop-i = lts.In-loop tie.the-claims reads.Pre reads.Post goal.the-invariant-loop-i goal.the-decreases-loop-i
 
 -- at block i
 module _ (l : In-loop-i) where
   abbrev s : Start
-  s = l.before.before.before
+  s = l.before.before.before.before
 
   abbrev body : List ℕ
   body = s.args.body.now
@@ -44,7 +50,7 @@ module _ (l : In-loop-i) where
 -- its verdict decides, and where it accepts, the rest
 module _ (c : After-check_block) where
   abbrev l : In-loop-i
-  l = c.before.before
+  l = c.before.before.before
 
   decided : (v : Verdict) → c.check_block.result ≡ v → let a = (s l).args in check_blocks a.steps a.q a.n a.first (cut a.n a.k (body l)) ≡ first_refusal (v ∷ rest l ∷ [])
   decided v e = let a = (s l).args in

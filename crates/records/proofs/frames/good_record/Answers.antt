@@ -12,12 +12,18 @@ use lib.ListN.{length}
 use Rattle.readings.specs.Words.{word_at}
 use Rattle.records.specs.Frames.{whole_blocks, good_record}
 use Rattle.records.proofs.frames.good_record.Goals as goal
-use Rattle.records.proofs.frames.good_record.Goals.{After-whole_blocks, After-word_at-n, Start}
+use Rattle.records.proofs.frames.good_record.Goals.{After-whole_blocks, Start}
+use Rattle.records.proofs.frames.good_record.Lts as lts
+use Rattle.records.proofs.frames.good_record.Tie as tie
+use Rattle.records.proofs.frames.good_record.Reads as reads
+
+abbrev After-word_at-n : Type 0
+After-word_at-n = lts.After-word_at tie.the-claims reads.Pre reads.Post
 
 -- the dimension
 module _ (c : After-word_at-n) where
   abbrev s : Start
-  s = c.before.before.before
+  s = c.before.before.before.before
 
   abbrev b : List ℕ
   b = s.args.b.now

@@ -68,15 +68,15 @@ loop-i-preserved c = let a = c.before.before.before in let same : to_z w32 (of_z
 
 pub returns-in-Missing : goal.returns-in-Missing
 returns-in-Missing c = let a = c.before.before in let k = reading-missing (i a) _ (rest a) (sym a.measure_at.ensures ∙ c.enum_told-1.given.1) in
-    (sym ((opened a).verdict ∙ k.0), taking-done (fvecs_readings (b a)) (s a).args.x.now (i a) (l a).loop-i.x _ k.1 (opened a))
+    record { answer = sym ((opened a).verdict ∙ k.0); room = taking-done (fvecs_readings (b a)) (s a).args.x.now (i a) (l a).loop-i.x _ k.1 (opened a) }
 
 pub returns-in-OutOfRange : goal.returns-in-OutOfRange
 returns-in-OutOfRange c = let a = c.before.before in let k = reading-beyond (i a) _ (rest a) (sym a.measure_at.ensures ∙ c.enum_told-in-OutOfRange-1.given.1) in
-    (sym ((opened a).verdict ∙ k.0), taking-done (fvecs_readings (b a)) (s a).args.x.now (i a) (l a).loop-i.x _ k.1 (opened a))
+    record { answer = sym ((opened a).verdict ∙ k.0); room = taking-done (fvecs_readings (b a)) (s a).args.x.now (i a) (l a).loop-i.x _ k.1 (opened a) }
 
 pub returns : goal.returns
 returns c =
     let l = c.before in let s = l.before.before in let bs = s.args.b.now in
     let none : s.args.n - l.loop-i.i ≡ 0 = omega arith in
     let t = subst (λ (k : ℕ). Taking (fvecs_readings bs) s.args.x.now l.loop-i.i (from bs l.loop-i.i k) l.loop-i.x) none l.loop-i.invariant.2 in
-    (sym t.verdict, taking-done (fvecs_readings bs) s.args.x.now l.loop-i.i l.loop-i.x _ refl t)
+    record { answer = sym t.verdict; room = taking-done (fvecs_readings bs) s.args.x.now l.loop-i.i l.loop-i.x _ refl t }

@@ -30,7 +30,7 @@ module _ (c : After-s-1) where
   i = at-loop.loop-i.i
 
   abbrev last : ℤ
-  last = to_z w32 at-loop.loop-i.last
+  last = to_z w32 at-loop.loop-i.last-bits
 
   abbrev s : ℤ
   s = get_or steps i (pos 0)
@@ -60,4 +60,4 @@ loop-i-preserved c = let b = c.before.before in (
 )
 
 pub returns : goal.returns
-returns c = let l = c.before in sym (l.loop-i.invariant.1 ∙ ap (rising (to_z w32 l.loop-i.last)) (drop_of_length-le l.before.args.steps.now {i = l.loop-i.i} (omega arith)))
+returns c = let l = c.before in sym (l.loop-i.invariant.1 ∙ ap (rising (to_z w32 l.loop-i.last-bits)) (drop_of_length-le l.before.args.steps.now {i = l.loop-i.i} (omega arith)))

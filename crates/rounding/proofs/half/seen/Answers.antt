@@ -11,7 +11,7 @@ use Rattle.integers.specs.Laws.Sizes.{abs-mul-le, fits-abs, fits-add, fits-mul}
 use Rattle.integers.specs.Vectors.{square}
 use Rattle.rounding.specs.declared.half.Scan.{Scan}
 use Rattle.rounding.specs.Laws.Keys.{key-small}
-use Rattle.rounding.specs.Laws.lowered-b.{lowered-small}
+use Rattle.rounding.specs.Laws.Lowered.{lowered-small}
 use Rattle.rounding.specs.Rounding.{lowered, key}
 use Rattle.rounding.proofs.half.seen.Goals as goal
 use Rattle.rounding.proofs.half.seen.Goals.{After-lowered-b, After-smaller, Start}
@@ -52,7 +52,7 @@ module _ (c : After-smaller) where
   b≤ = subst (λ (z : ℤ). nat_abs z ≤ 2 ^ 15) (sym b-is) (omega (arith, lowered-small start.args.s a, start.requires.2, start.requires.3.most))
 
   fb : SFits w64 b
-  fb = record { sfits = low.lowered-b.ok }
+  fb = record { sfits = low.lowered-b.type_inv }
 
   fs : SFits w64 was.sum
   fs = fits-abs _ (omega (arith, start.requires.0.sum))

@@ -16,10 +16,7 @@ use Rattle.rounding.specs.Laws.Choice.{sign_small}
 use Rattle.rounding.specs.Rounding.{sign}
 use Rattle.rounding.proofs.point.spread.Goals as goal
 use Rattle.rounding.proofs.point.spread.Goals.{After-sign, In-loop-i, Start}
-
--- an entry of the half of parity p
-abbrev wide : ℤ → List ℤ → List ℤ → ℕ → ℤ
-wide p f a i = pos 2 *ℤ «at» f i +ℤ p *ℤ sign («at» a i)
+use Rattle.rounding.proofs.point.spread.Invariants.{wide}
 
 module _ (l : In-loop-i) where
   abbrev b : Start

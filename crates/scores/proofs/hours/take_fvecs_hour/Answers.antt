@@ -30,7 +30,7 @@ module _ (c : After-check_coder) where
   readings = check_readings 0 h.readings
 
   abbrev found : List ℤ
-  found = s.args.x-1.now
+  found = s.args.x.now
 
   module _ (v f : Verdict) (d : c.check_coder.result ≡ v) (e : h.frame ≡ f) where
     decided : check_hour s.args.s s.args.steps.now h ≡ first_refusal (v ∷ f ∷ readings ∷ [])
@@ -62,17 +62,11 @@ take_readings-requires c = let w = c.before in let f = frame w.before in let a =
     (w.word_at-n.ensures, omega (arith, w.word_at-n.ensures, f.complete), omega (arith, w.word_at-n.ensures, f.whole.times, f.whole.few, a.requires))
 
 pub returns-in-Refused : goal.returns-in-Refused
-returns-in-Refused c = let a = c.before.before.before in let d = c.before.r-1.given.1 in (sym (decided a (Refused _) (h a).frame d refl), sym (left a (Refused _) (h a).frame d refl))
+returns-in-Refused c = let a = c.before.before.before in let d = c.before.r-1.given.1 in record { answer = sym (decided a (Refused _) (h a).frame d refl); room = sym (left a (Refused _) (h a).frame d refl) }
 
 pub returns-then-good_record : goal.returns-then-good_record
 returns-then-good_record c = let r = c.before in let t = r.before.before.before in let g = t.before in let a = k g in
-    let d = g.before.enum_told-1.given.1 in let e = framed g _ t.if-good_record.true in (
-      r.take_readings.ensures.0 ∙ sym (decided a Accepted Accepted d e ∙ first-last (readings a)),
-      r.take_readings.ensures.1 ∙ sym (left a Accepted Accepted d e),
-    )
+    let d = g.before.enum_told-1.given.1 in let e = framed g _ t.if-good_record.true in record { answer = r.take_readings.ensures.answer ∙ sym (decided a Accepted Accepted d e ∙ first-last (readings a)); room = r.take_readings.ensures.room ∙ sym (left a Accepted Accepted d e) }
 
 pub returns-else-good_record : goal.returns-else-good_record
-returns-else-good_record c = let g = c.before in let a = k g in let d = g.before.enum_told-1.given.1 in let e = framed g _ c.if-good_record.false in (
-  sym (decided a Accepted (Refused (Record 0)) d e),
-  sym (left a Accepted (Refused (Record 0)) d e),
-)
+returns-else-good_record c = let g = c.before in let a = k g in let d = g.before.enum_told-1.given.1 in let e = framed g _ c.if-good_record.false in record { answer = sym (decided a Accepted (Refused (Record 0)) d e); room = sym (left a Accepted (Refused (Record 0)) d e) }

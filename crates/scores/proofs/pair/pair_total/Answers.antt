@@ -67,7 +67,7 @@ module _ (l : At-loop-i) where
   abbrev sum : ℕ → ℤ
   sum j = total f (cut (block_size m) j body) (cut (block_size m) j body')
 
-  sum_is : to_z w64 l.loop-i.z ≡ sum i
+  sum_is : to_z w64 l.loop-i.z-bits ≡ sum i
   sum_is = simp (to_z-of_z, s.ranges.q) at l.loop-i.invariant.1
 
   n-is : n ≡ block_size m

@@ -29,7 +29,7 @@ query_total-requires-else-q-eq2 c = let e = c.before.before in let s = e.before.
     simp (to_z-of_z, s.ranges.q) ((λ h. absurd (e.if-q-eq2.false (ap (of_z w64) (sym (base-is s.args.q s.requires.0.base) ∙ ap pos h)))), s.requires.0, s.requires.1, s.requires.2, s.requires.3, refl)
 
 pub returns-then-q-eq2 : goal.returns-then-q-eq2
-returns-then-q-eq2 c = let s = c.before.before.before.before.before.before in let f : SFits w64 c.query_total.result = record { sfits = c.query_total.type_inv } in to_z-of_z f ∙ c.query_total.ensures.0 ∙ ap (sum s) (to_z-of_z s.ranges.q)
+returns-then-q-eq2 c = let s = c.before.before.before.before.before.before in let f : SFits w64 c.query_total.result = record { sfits = c.query_total.type_inv } in to_z-of_z f ∙ c.query_total.ensures.answer ∙ ap (sum s) (to_z-of_z s.ranges.q)
 
 pub returns-else-q-eq2 : goal.returns-else-q-eq2
-returns-else-q-eq2 c = let s = c.before.before.before.before.before in let f : SFits w64 c.query_total-else-q-eq2.result = record { sfits = c.query_total-else-q-eq2.type_inv } in to_z-of_z f ∙ c.query_total-else-q-eq2.ensures.0 ∙ ap (sum s) (to_z-of_z s.ranges.q)
+returns-else-q-eq2 c = let s = c.before.before.before.before.before in let f : SFits w64 c.query_total-else-q-eq2.result = record { sfits = c.query_total-else-q-eq2.type_inv } in to_z-of_z f ∙ c.query_total-else-q-eq2.ensures.answer ∙ ap (sum s) (to_z-of_z s.ranges.q)

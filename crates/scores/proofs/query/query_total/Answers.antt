@@ -34,8 +34,8 @@ ruled_total-requires c = let s = c.before.before in let p = s.requires in simp (
 
 pub returns-then-q-eq2 : goal.returns-then-q-eq2
 returns-then-q-eq2 c = let t = c.before.before in let s = t.before.before in let f : SFits w64 c.table_total.result = record { sfits = c.table_total.type_inv } in
-    (to_z-of_z f ∙ (simp (to_z-of_z, s.ranges.q) at c.table_total.ensures.0), (simp (to_z-of_z, s.ranges.q) at c.table_total.ensures.1) ∙ ap (rows s) (sym (eq-eqb (nat_abs s.args.q) 2 (two t))))
+    record { answer = to_z-of_z f ∙ (simp (to_z-of_z, s.ranges.q) at c.table_total.ensures.answer); room = (simp (to_z-of_z, s.ranges.q) at c.table_total.ensures.room) ∙ ap (rows s) (sym (eq-eqb (nat_abs s.args.q) 2 (two t))) }
 
 pub returns-else-q-eq2 : goal.returns-else-q-eq2
 returns-else-q-eq2 c = let e = c.before in let s = e.before.before in let f : SFits w64 c.ruled_total.result = record { sfits = c.ruled_total.type_inv } in
-    (to_z-of_z f ∙ (simp (to_z-of_z, s.ranges.q) at c.ruled_total.ensures), ap (rows s) (sym (ne_eqb (nat_abs s.args.q) 2 (other e))))
+    record { answer = to_z-of_z f ∙ (simp (to_z-of_z, s.ranges.q) at c.ruled_total.ensures); room = ap (rows s) (sym (ne_eqb (nat_abs s.args.q) 2 (other e))) }

@@ -59,7 +59,7 @@ module _ (l : At-loop-i) where
   abbrev sum : ℕ → ℤ
   sum j = total f (cut 8 j X) (cut (block_size m) j body)
 
-  sum_is : to_z w64 l.loop-i.z ≡ sum i
+  sum_is : to_z w64 l.loop-i.z-bits ≡ sum i
   sum_is = simp (to_z-of_z, s.ranges.q) at l.loop-i.invariant.1
 
   n-is : l.before.block_size-n.result ≡ block_size m
@@ -136,7 +136,7 @@ module _ (c : Joined-i-eq0) where
   t = l g
 
   abbrev e : List (List ℤ)
-  e = c.if-i-eq0.e-1
+  e = c.if-i-eq0.e
 
   stands : Standing (q t) (m t) (k t) (body t) (i t) e
   stands = let S : List (List ℤ) → Type 0 = Standing (q t) (m t) (k t) (body t) (i t) in

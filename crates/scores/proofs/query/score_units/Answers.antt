@@ -10,7 +10,7 @@ use mir.Syntax.{w64}
 use mir.Val.{SFits, to_z, of_z}
 use mir.Facts.{to_z-of_z}
 use Rattle.integers.specs.Laws.Loops.{rest-whole}
-use Rattle.layers-m.specs.Digits.{cut}
+use Rattle.layers.specs.Digits.{cut}
 use Rattle.records.specs.Eight.Codes.{Coder, AreBlocks, block_size, blocks_in}
 use Rattle.records.specs.Eight.Asked.{RecordTaken}
 use Rattle.records.specs.Laws.Frames.{blocks-whole}

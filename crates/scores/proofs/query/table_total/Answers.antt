@@ -53,7 +53,7 @@ module _ (l : At-loop-i) where
   abbrev sum : ℕ → ℤ
   sum j = total f (cut 8 j X) (cut (block_size m) j body)
 
-  sum_is : to_z w64 l.loop-i.z ≡ sum i
+  sum_is : to_z w64 l.loop-i.z-bits ≡ sum i
   sum_is = simp (to_z-of_z, s.ranges.q) at l.loop-i.invariant.1
 
   n-is : l.before.block_size-n.result ≡ block_size m
@@ -186,4 +186,4 @@ pub loop-i-preserved : goal.loop-i-preserved
 loop-i-preserved c = (omega arith, simp (to_z-of_z, (s (t c)).ranges.q, y-fits c, sum_is (t c), more-fits c) (more-is c))
 
 pub returns : goal.returns
-returns c = let l = c.before in let n : i l ≡ k l = omega arith in (sum_is l ∙ ap (sum l) n, rows_are l)
+returns c = let l = c.before in let n : i l ≡ k l = omega arith in record { answer = sum_is l ∙ ap (sum l) n; room = rows_are l }

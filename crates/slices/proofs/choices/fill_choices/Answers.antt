@@ -21,10 +21,10 @@ use Rattle.layers.specs.Laws.Bases.{base-two}
 use Rattle.layers.specs.Laws.Entries.{digits_of-layer, squared}
 use Rattle.rounding.specs.declared.half.Scan.{Scan}
 use Rattle.coding.specs.Counting.{counted_up}
-use Rattle.slices.specs.lanes-1.{Lane, Lanes, high_at, scan_at, Lows, RunPut}
+use Rattle.slices.specs.Lanes.{Lane, Lanes, high_at, scan_at, Lows, RunPut}
 use Rattle.slices.specs.Laws.Choices.{Chosen, chosen_none, chosen_more, chosen-all}
 use Rattle.coding.specs.Laws.Counting.{digits-zero, counted_next}
-use Rattle.slices.specs.Laws.lanes-1.{grid-same, base-few, rounds-sized, rests-sized, high-layer, lane-at, scan-at, last-five}
+use Rattle.slices.specs.Laws.Lanes.{grid-same, base-few, rounds-sized, rests-sized, high-layer, lane-at, scan-at, last-five}
 use Rattle.slices.specs.Laws.Powers.{run_size, row_count, size_few, rows_few, slice-few, run_room, digit_room, low-within}
 use Rattle.slices.specs.Slices.{rounds_of, rests_of, high_digits}
 use Rattle.slices.proofs.choices.fill_choices.Goals as goal
@@ -95,19 +95,19 @@ module _ (c : In-loop-g) where
   below : g < 256
   below = omega (arith, within, rows_few (q s) s.requires.1)
 
-  ds-is : l.loop-g.ds-1 ≡ digits_of (N s) 4 g
-  ds-is = subst (λ (z : ℤ). l.loop-g.ds-1 ≡ digits_of (nat_abs z) 4 g) (to_z-of_z s.ranges.q) l.loop-g.invariant.1
+  ds-is : l.loop-g.ds ≡ digits_of (N s) 4 g
+  ds-is = subst (λ (z : ℤ). l.loop-g.ds ≡ digits_of (nat_abs z) 4 g) (to_z-of_z s.ranges.q) l.loop-g.invariant.1
 
   chosen : Chosen (q s) (d s) g l.loop-g.choices l.loop-g.highs
   chosen = subst (λ (z : ℤ). Chosen z (d s) g l.loop-g.choices l.loop-g.highs) (to_z-of_z s.ranges.q) l.loop-g.invariant.4
 
-  digits : IsLayer 4 (N s) l.loop-g.ds-1
+  digits : IsLayer 4 (N s) l.loop-g.ds
   digits = subst (IsLayer 4 (N s)) (sym ds-is) (digits_of-layer (N s) (N> s) 4 g)
 
-  first-is : get_or l.loop-g.ds-1 0 0 ≡ g % N s
+  first-is : get_or l.loop-g.ds 0 0 ≡ g % N s
   first-is = ap (λ (l : List ℕ). get_or l 0 0) ds-is
 
-  first-less : get_or l.loop-g.ds-1 0 0 < N s
+  first-less : get_or l.loop-g.ds 0 0 < N s
   first-less = subst (λ (i : ℕ). i < N s) (sym first-is) (mod-lt g (N> s))
 
   high : IsLayer 8 (N s) (high_at (q s) (d s) g)
@@ -226,7 +226,7 @@ overflow_cast-ds c = let i = i₃ c.before in record { fits = omega (arith, firs
 
 pub overflow_mul-three-in-loop-g : goal.overflow_mul-three-in-loop-g
 overflow_mul-three-in-loop-g c = let i = i₃ c.before in let b = s i in
-    simp (to_z-of_z, b.ranges.q) (record { fits = omega (arith, digit_room (q b) (get_or (l i).loop-g.ds-1 0 0) (first-less i), rows_few (q b) b.requires.1) })
+    simp (to_z-of_z, b.ranges.q) (record { fits = omega (arith, digit_room (q b) (get_or (l i).loop-g.ds 0 0) (first-less i), rows_few (q b) b.requires.1) })
 
 pub overflow_mul-three-in-loop-g-2 : goal.overflow_mul-three-in-loop-g-2
 overflow_mul-three-in-loop-g-2 c = let i = i₃ c.before.before in let b = s i in simp (to_z-of_z, b.ranges.q) (record { fits = omega (arith, run_room (q b) (g i) (within i), slice-few (q b) b.requires.1) })
@@ -236,7 +236,7 @@ put_run-requires c = let m = c.before.before in let i = i₃ m in let b = s i in
     simp (to_z-of_z, b.ranges.q) (
       few b,
       (lows-are (k i)).grid,
-      omega (arith, digit_room (q b) (get_or (l i).loop-g.ds-1 0 0) (first-less i), rows_few (q b) b.requires.1),
+      omega (arith, digit_room (q b) (get_or (l i).loop-g.ds 0 0) (first-less i), rows_few (q b) b.requires.1),
       subst (λ (j : ℕ). Lanes (q b) (size b * j) (size b) (lanes (k i))) (sym (first-is i)) (lanes-are i),
       subst (Part (N b) 5) (sym (scan-is m)) (seen i),
       omega (arith, run_room (q b) (g i) (within i), slice-few (q b) b.requires.1, (chosen i).long),

@@ -21,10 +21,10 @@ use Rattle.layers.specs.Laws.Bases.{base-two}
 use Rattle.layers.specs.Laws.Entries.{digits_of-layer, squared}
 use Rattle.rounding.specs.declared.half.Scan.{Scan}
 use Rattle.coding.specs.Counting.{counted_up}
-use Rattle.slices.specs.lanes-1.{Lane, Lanes, high_at, scan_at, Lows, RunPut}
+use Rattle.slices.specs.Lanes.{Lane, Lanes, high_at, scan_at, Lows, RunPut}
 use Rattle.slices.specs.Laws.Choices.{Chosen, chosen_none, chosen_more, chosen-all}
 use Rattle.coding.specs.Laws.Counting.{digits-zero, counted_next}
-use Rattle.slices.specs.Laws.lanes-1.{grid-same, base-few, rounds-sized, rests-sized, high-layer, lane-at, scan-at, last-five}
+use Rattle.slices.specs.Laws.Lanes.{grid-same, base-few, rounds-sized, rests-sized, high-layer, lane-at, scan-at, last-five}
 use Rattle.slices.specs.Laws.Powers.{run_size, row_count, size_few, rows_few, slice-few, run_room, digit_room, low-within}
 use Rattle.slices.specs.Slices.{rounds_of, rests_of, high_digits}
 use Rattle.slices.proofs.choices.fill_choices.Given as goal

@@ -62,10 +62,10 @@ module _ (c : In-loop-t) where
   below : t < 256
   below = omega (arith, c.loop-t-test.true, s.requires.3)
 
-  ds-is : l.loop-t.ds-1 ≡ digits_of N 4 t
+  ds-is : l.loop-t.ds ≡ digits_of N 4 t
   ds-is = (simp (to_z-of_z, s.ranges.q) at l.loop-t.invariant).1
 
-  digits : IsLayer 4 N l.loop-t.ds-1
+  digits : IsLayer 4 N l.loop-t.ds
   digits = subst (IsLayer 4 N) (sym ds-is) (digits_of-layer N N> 4 t)
 
   few : Few q

@@ -30,8 +30,8 @@ module _ (c : Joined-a-b-2) where
     | inr h ↦ omega (arith, h.0.left, h.1)
   ]
 
-  least : c.if-a-b-2.t12 ≡ min x.least y.least
-  least = elim c.if-a-b-2.branch [
+  least : c.if2.t12 ≡ min x.least y.least
+  least = elim c.if2.branch [
     | inl h ↦ omega (arith, h.0.taken, h.1)
     | inr h ↦ omega (arith, h.0.left, h.1)
   ]

@@ -5,12 +5,12 @@ use mir.Syntax.{w16}
 use mir.Val.{SFits}
 use mir.Facts.{to_z-of_z}
 use Rattle.integers.specs.Vectors.{«at»}
-use Rattle.slices.specs.Laws.lanes-1.{Putting, putting-none, putting-more, putting-all}
+use Rattle.slices.specs.Laws.Lanes.{Putting, putting-none, putting-more, putting-all}
 use Rattle.slices.proofs.choices.put_lane.Goals as goal
 use Rattle.slices.proofs.choices.put_lane.Goals.{After-lanes-1, At-loop-j, Start}
 
 pub loop-j-init : goal.loop-j-init
-loop-j-init c = let a = c.args in (omega arith, putting-none a.t c.requires.1 a.l.now c.requires.2 a.lanes-1.now c.requires.0)
+loop-j-init c = let a = c.args in (omega arith, putting-none a.t c.requires.1 a.l.now c.requires.2 a.lanes.now c.requires.0)
 
 pub offset_bounds-l-j : goal.offset_bounds-l-j
 offset_bounds-l-j c = omega (arith, c.loop-j-test.true)
@@ -42,8 +42,8 @@ bounds-lanes-t c = (s c).requires.1
 
 pub loop-j-preserved : goal.loop-j-preserved
 loop-j-preserved c = let b = l c in let a = (s c).args in
-    simp (to_z-of_z, fx c) (omega arith, putting-more a.t (s c).requires.1 a.l.now (s c).requires.2 a.lanes-1.now b.loop-j.j b.loop-j.lanes-1 b.loop-j.invariant.1 c.before.loop-j-test.true)
+    simp (to_z-of_z, fx c) (omega arith, putting-more a.t (s c).requires.1 a.l.now (s c).requires.2 a.lanes.now b.loop-j.j b.loop-j.lanes b.loop-j.invariant.1 c.before.loop-j-test.true)
 
 pub returns : goal.returns
 returns c = let b = c.before in let s = b.before in let a = s.args in
-    putting-all a.t s.requires.1 a.l.now s.requires.2 a.lanes-1.now b.loop-j.j b.loop-j.lanes-1 b.loop-j.invariant.1 c.loop-j-test.false
+    putting-all a.t s.requires.1 a.l.now s.requires.2 a.lanes.now b.loop-j.j b.loop-j.lanes b.loop-j.invariant.1 c.loop-j-test.false

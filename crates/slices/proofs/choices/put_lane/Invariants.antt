@@ -5,7 +5,7 @@ use mir.Syntax.{w16}
 use mir.Val.{SFits}
 use mir.Facts.{to_z-of_z}
 use Rattle.integers.specs.Vectors.{«at»}
-use Rattle.slices.specs.Laws.lanes-1.{Putting, putting-none, putting-more, putting-all}
+use Rattle.slices.specs.Laws.Lanes.{Putting, putting-none, putting-more, putting-all}
 use Rattle.slices.proofs.choices.put_lane.Given as goal
 
 abbrev pub invariant-loop-j : goal.invariant-loop-j

@@ -10,7 +10,7 @@ use mir.Facts.{to_z-of_z}
 use Rattle.columns.specs.Narrow.{wide}
 use Rattle.rounding.specs.declared.half.Scan.{Scan}
 use Rattle.slices.specs.Lanes.{Run, RunPut}
-use Rattle.slices.specs.Laws.choices-1.{run-put}
+use Rattle.slices.specs.Laws.Choices.{run-put}
 use Rattle.slices.proofs.choices.put_run.Goals as goal
 use Rattle.slices.proofs.choices.put_run.Goals.{After-choose_run, Start}
 
@@ -22,7 +22,7 @@ module _ (s : Start) where
   n = s.args.n
 
   abbrev found : List ℕ
-  found = s.args.choices-1.now
+  found = s.args.choices.now
 
   whole : i + n - i ≡ n
   whole = omega arith

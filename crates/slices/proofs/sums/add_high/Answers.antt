@@ -49,7 +49,7 @@ module _ (l : In-loop-c) where
   f2 = fits-mag w32 (second k) (omega (arith, second-small))
 
   abbrev before : List ℤ
-  before = l.before.loop-c.y-1
+  before = l.before.loop-c.y
 
   abbrev after : List ℤ
   after = set (set before (2 * k) (first k)) (2 * k + 1) (second k)
@@ -65,7 +65,7 @@ module _ (l : In-loop-c) where
   )
 
 pub loop-c-init : goal.loop-c-init
-loop-c-init c = (omega arith, c.requires.3, paired_none _ _ c.args.y-1.now)
+loop-c-init c = (omega arith, c.requires.3, paired_none _ _ c.args.y.now)
 
 pub overflow_mul-y : goal.overflow_mul-y
 overflow_mul-y c = omega (arith, c.loop-c-test.true)
@@ -127,6 +127,6 @@ loop-c-preserved c = let l = c.before.before in simp (to_z-of_z, (b l).ranges.ev
 pub returns : goal.returns
 returns c = let l = c.before in let b = l.before in let Z = b.args.z.now in (
   l.loop-c.invariant.1,
-  subst (λ (n : ℕ). Paired (λ (c : ℕ). «at» Z (2 * c) +ℤ b.args.even) (λ (c : ℕ). «at» Z (2 * c + 1) +ℤ b.args.odd) n l.loop-c.y-1) (omega (arith, c.loop-c-test.false, l.loop-c.invariant.0))
+  subst (λ (n : ℕ). Paired (λ (c : ℕ). «at» Z (2 * c) +ℤ b.args.even) (λ (c : ℕ). «at» Z (2 * c + 1) +ℤ b.args.odd) n l.loop-c.y) (omega (arith, c.loop-c-test.false, l.loop-c.invariant.0))
       (simp (to_z-of_z, b.ranges.even, b.ranges.odd) at l.loop-c.invariant.2),
 )

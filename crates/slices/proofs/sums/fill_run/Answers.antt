@@ -24,7 +24,7 @@ module _ (l : In-loop-t) where
   t = l.before.loop-t.t
 
   abbrev n : ℕ
-  n = length b.args.run-1.now
+  n = length b.args.run.now
 
   t< : t < n
   t< = omega (arith, l.loop-t-test.true, l.before.loop-t.invariant.long)
@@ -53,7 +53,7 @@ module _ (l : In-loop-t) where
   abbrev value : ℕ → ℤ
   value = run_at b.args.sums.now b.args.y.now b.args.choices.now
 
-  more : Filled value n (range 0 n) (t + 1) (set l.before.loop-t.run-1 t (value t))
+  more : Filled value n (range 0 n) (t + 1) (set l.before.loop-t.run t (value t))
   more = filled_more value n (range 0 n) (range-long 0 n) 0 (value t) (ap value (sym (range-entry n t t<))) t< l.before.loop-t.invariant
 
 pub loop-t-init : goal.loop-t-init
@@ -105,5 +105,5 @@ pub shape_of-run : goal.shape_of-run
 shape_of-run c = c.before.loop-t.invariant.long
 
 pub returns : goal.returns
-returns c = let l = c.before in let a = l.before.args in let n = length a.run-1.now in
+returns c = let l = c.before in let a = l.before.args in let n = length a.run.now in
     filled-all (run_at a.sums.now a.y.now a.choices.now) n (range 0 n) (range-long 0 n) (omega (arith, c.loop-t-test.false, l.loop-t.invariant.long)) l.loop-t.invariant

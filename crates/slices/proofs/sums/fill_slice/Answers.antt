@@ -16,15 +16,15 @@ use Rattle.integers.specs.Vectors.{«at», dot, Sized, range}
 use Rattle.integers.specs.Laws.Loops.{range-long, range_at}
 use Rattle.integers.specs.Laws.Signed.{≤ℤ-trans}
 use Rattle.integers.specs.Laws.Sizes.{fits-mag}
-use Rattle.integers.specs.Laws.sums-1.{bounded-take, bounded-drop}
+use Rattle.integers.specs.Laws.Sums.{bounded-take, bounded-drop}
 use Rattle.columns.specs.Narrow.{Few}
 use Rattle.layers.specs.Laws.Bases.{base-two, base-divisor}
 use Rattle.rounding.specs.Rounding.{lowered}
 use Rattle.slices.specs.Slices.{Sizes, point_by}
-use Rattle.slices.specs.sums-1.{even_at, odd_at, mend_at, Paired, Run, run_at}
+use Rattle.slices.specs.Sums.{even_at, odd_at, mend_at, Paired, Run, run_at}
 use Rattle.slices.specs.Laws.Powers.{run_size, row_count, fourth-is, seventh-is, size_few, rows_few, slice-few, run_room, low-room}
 use Rattle.slices.specs.Laws.Runs.{Begun, Looked, run-at, begun-none, begun_more, begun_all}
-use Rattle.slices.specs.Laws.sums-1.{zeros-sized, range-sized, dot-sized, lowered-sized, mend-small}
+use Rattle.slices.specs.Laws.Sums.{zeros-sized, range-sized, dot-sized, lowered-sized, mend-small}
 use Rattle.slices.proofs.sums.fill_slice.Goals as goal
 use Rattle.slices.proofs.sums.fill_slice.Goals.{After-add_high, After-fill_run, After-mends, After-odd_sum, In-loop-g, Start}
 
@@ -134,7 +134,7 @@ module _ (l : In-loop-g) where
   row = (sizes s).high g (rw (fourth-is (q s)) g<)
 
   abbrev found : List ℤ
-  found = l.before.loop-g.part-1
+  found = l.before.loop-g.part
 
   found-long : length found ≡ T * row_count (q s)
   found-long = l.before.loop-g.invariant.0.long
@@ -284,7 +284,7 @@ pub mends-requires : goal.mends-requires
 mends-requires c = let b = c.before.before.before.before.before in (b.requires.1, q≤ b, refl)
 
 pub loop-g-init : goal.loop-g-init
-loop-g-init c = let d = b c in (begun-none (q d) (choices d) (lows d) (highs d) (X d) d.args.part-1.now (simp (to_z-of_z, d.ranges.q) d.requires.2), zeros-sized 48 (2 ^ 30))
+loop-g-init c = let d = b c in (begun-none (q d) (choices d) (lows d) (highs d) (X d) d.args.part.now (simp (to_z-of_z, d.ranges.q) d.requires.2), zeros-sized 48 (2 ^ 30))
 
 pub offset_bounds-highs-g : goal.offset_bounds-highs-g
 offset_bounds-highs-g c = omega (arith, g≤ c)
@@ -359,4 +359,4 @@ pub shape_of-part : goal.shape_of-part
 shape_of-part c = let e = b c.before.before in c.before.loop-g.invariant.0.long ∙ sym (seventh-is (q e)) ∙ sym (simp (to_z-of_z, e.ranges.q) e.requires.2)
 
 pub returns : goal.returns
-returns c = let e = b c.before.before in simp (to_z-of_z, e.ranges.q) at (begun_all (q e) (choices e) (lows e) (highs e) (X e) c.before.loop-g.g c.before.loop-g.part-1 c.before.loop-g.invariant.0 c.loop-g-test.false)
+returns c = let e = b c.before.before in simp (to_z-of_z, e.ranges.q) at (begun_all (q e) (choices e) (lows e) (highs e) (X e) c.before.loop-g.g c.before.loop-g.part c.before.loop-g.invariant.0 c.loop-g-test.false)

@@ -16,15 +16,15 @@ use Rattle.integers.specs.Vectors.{«at», dot, Sized, range}
 use Rattle.integers.specs.Laws.Loops.{range-long, range_at}
 use Rattle.integers.specs.Laws.Signed.{≤ℤ-trans}
 use Rattle.integers.specs.Laws.Sizes.{fits-mag}
-use Rattle.integers.specs.Laws.sums-1.{bounded-take, bounded-drop}
+use Rattle.integers.specs.Laws.Sums.{bounded-take, bounded-drop}
 use Rattle.columns.specs.Narrow.{Few}
 use Rattle.layers.specs.Laws.Bases.{base-two, base-divisor}
 use Rattle.rounding.specs.Rounding.{lowered}
 use Rattle.slices.specs.Slices.{Sizes, point_by}
-use Rattle.slices.specs.sums-1.{even_at, odd_at, mend_at, Paired, Run, run_at}
+use Rattle.slices.specs.Sums.{even_at, odd_at, mend_at, Paired, Run, run_at}
 use Rattle.slices.specs.Laws.Powers.{run_size, row_count, fourth-is, seventh-is, size_few, rows_few, slice-few, run_room, low-room}
 use Rattle.slices.specs.Laws.Runs.{Begun, Looked, run-at, begun-none, begun_more, begun_all}
-use Rattle.slices.specs.Laws.sums-1.{zeros-sized, range-sized, dot-sized, lowered-sized, mend-small}
+use Rattle.slices.specs.Laws.Sums.{zeros-sized, range-sized, dot-sized, lowered-sized, mend-small}
 use Rattle.slices.proofs.sums.fill_slice.Given as goal
 
 abbrev pub invariant-loop-g : goal.invariant-loop-g

@@ -55,10 +55,10 @@ module _ (l : In-loop-c) where
   fm : SFits w32 (mend_at s X k)
   fm = fits-mag w32 (mend_at s X k) (omega (arith, mend-small s b.requires.1 k l.loop-c-test.true X b.requires.0.small))
 
-  filled : Filled (mend_at s X) 48 (range 0 48) k l.before.loop-c.z-1
+  filled : Filled (mend_at s X) 48 (range 0 48) k l.before.loop-c.z
   filled = simp (to_z-of_z, b.ranges.s) at l.before.loop-c.invariant
 
-  more : Filled (mend_at s X) 48 (range 0 48) (k + 1) (set l.before.loop-c.z-1 k (mend_at s X k))
+  more : Filled (mend_at s X) 48 (range 0 48) (k + 1) (set l.before.loop-c.z k (mend_at s X k))
   more = filled_more (mend_at s X) 48 (range 0 48) (range-long 0 48) 0 (mend_at s X k) (ap (mend_at s X) (sym (range-entry 48 k l.loop-c-test.true))) l.loop-c-test.true filled
 
 pub overflow_cast-q : goal.overflow_cast-q

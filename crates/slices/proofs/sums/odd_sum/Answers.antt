@@ -44,7 +44,7 @@ module _ (l : In-loop-i) where
   fa : SFits w16 («at» a i)
   fa = fits-mag w16 («at» a i) (omega (arith, b.requires.3 i))
 
-  sum_is : to_z w32 l.before.loop-i.z-1 ≡ dot (take i X) (take i e)
+  sum_is : to_z w32 l.before.loop-i.z-bits ≡ dot (take i X) (take i e)
   sum_is = simp (to_z-of_z, b.ranges.s) at l.before.loop-i.invariant.1
 
 -- what is left of it, and the sums before and after

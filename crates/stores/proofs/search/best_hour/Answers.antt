@@ -39,7 +39,7 @@ module _ (c : In-Accepted) where
   X = units_taken h.readings
 
   accepted : check_hour s.args.s steps h ≡ Accepted
-  accepted = sym r.take_fvecs_hour.ensures.0 ∙ c.enum_told-1.given.1
+  accepted = sym r.take_fvecs_hour.ensures.answer ∙ c.enum_told-1.given.1
 
   taken : HourTaken s.args.s steps h
   taken = hour-taken s.args.s steps h (fvecs-sound b) accepted
@@ -59,7 +59,7 @@ module _ (c : After-word_at-n) where
   n-is = (taken t).long ∙ fvecs-count (b t) ∙ sym c.word_at-n.ensures
 
   room-is : room ≡ X t ++ drop (length (X t)) (zeros 512)
-  room-is = (r t).take_fvecs_hour.ensures.1 ∙ room-taken (s t).args.s (steps t) (h t) (zeros 512) (accepted t)
+  room-is = (r t).take_fvecs_hour.ensures.room ∙ room-taken (s t).args.s (steps t) (h t) (zeros 512) (accepted t)
 
   enough : n ≤ length room
   enough = omega (arith, n-is, simp length-append at (ap length room-is))
@@ -87,7 +87,7 @@ search_units-requires c = let w = c.before.before in ((taken (t w)).taken, subst
 
 pub returns-in-Refused : goal.returns-in-Refused
 returns-in-Refused c = let a = c.before.before.before.before.before in let v = a.before.before.before.before.args in
-    c.no_hour.ensures ∙ best_hour-refused v.s v.steps.now (fvecs_hour v.query.now) v.store.now _ (sym a.take_fvecs_hour.ensures.0 ∙ c.before.before.r-1.given.1)
+    c.no_hour.ensures ∙ best_hour-refused v.s v.steps.now (fvecs_hour v.query.now) v.store.now _ (sym a.take_fvecs_hour.ensures.answer ∙ c.before.before.r-1.given.1)
 
 pub returns-in-Accepted : goal.returns-in-Accepted
 returns-in-Accepted c = let w = c.before.before.before in let a = t w in let v = (s a).args in

@@ -103,8 +103,8 @@ pub loop-i-init : goal.loop-i-init
 loop-i-init c = let a = c.before.before.before in let v = (s a).args in let f : SFits w64 c.record_total.result = record { sfits = c.record_total.type_inv } in let whole : n a - 0 ≡ n a = omega arith in (
   omega arith,
   some a,
-  ap (λ (z : ℤ). record { hour = 0; score = z }) (to_z-of_z f ∙ c.record_total.ensures.0 ∙ ap (λ (j : ℕ). query_total (nat_abs (to_z w64 (of_z w64 v.q))) v.m (steps a) v.x.now (take j (store a))) whole),
-  c.record_total.ensures.1,
+  ap (λ (z : ℤ). record { hour = 0; score = z }) (to_z-of_z f ∙ c.record_total.ensures.answer ∙ ap (λ (j : ℕ). query_total (nat_abs (to_z w64 (of_z w64 v.q))) v.m (steps a) v.x.now (take j (store a))) whole),
+  c.record_total.ensures.room,
 )
 
 pub overflow_mul-at : goal.overflow_mul-at
@@ -126,12 +126,12 @@ overflow_add-i c = let l = c.before.before.before.before in omega (arith, within
 pub loop-i-preserved : goal.loop-i-preserved
 loop-i-preserved c = let r = c.before in let l = r.before.before.before in let b = a l in let v = (s b).args in
     let y : ℤ = r.record_total-z.result in let y-fits : SFits w64 y = record { sfits = r.record_total-z.type_inv } in
-    let y-is : y ≡ f b (record_at (n b) (store b) (i l)) = (simp (to_z-of_z, (s b).ranges.q) at r.record_total-z.ensures.0) ∙ ap (f b) (record_is l) in
+    let y-is : y ≡ f b (record_at (n b) (store b) (i l)) = (simp (to_z-of_z, (s b).ranges.q) at r.record_total-z.ensures.answer) ∙ ap (f b) (record_is l) in
     let best-is : l.before.loop-i.best ≡ best_of (map (f b) (cut (n b) (i l) (store b))) = simp (to_z-of_z, (s b).ranges.q) at l.before.loop-i.invariant.2 in (
       omega arith,
       omega (arith, within l),
       simp (to_z-of_z, (s b).ranges.q) (c.better-best.ensures ∙ ap₂ (λ (w : Best) (z : ℤ). better w (i l) z) best-is (to_z-of_z y-fits ∙ y-is) ∙ sym (best-next (f b) (n b) (store b) (i l) l.before.loop-i.invariant.0)),
-      r.record_total-z.ensures.1,
+      r.record_total-z.ensures.room,
     )
 
 pub returns : goal.returns

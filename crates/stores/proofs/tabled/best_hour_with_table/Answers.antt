@@ -45,7 +45,7 @@ module _ (c : After-check_fvecs_asked) where
   store = s.args.store.now
 
   abbrev out : List ℤ
-  out = s.args.entries-1.now
+  out = s.args.entries.now
 
   -- by what the checks before the readings say, and the readings
   checked : (v w : Verdict) → c.check_fvecs_asked.result ≡ v → check_readings 0 h.readings ≡ w → before_store chosen steps h (length out) ≡ first_refusal (v ∷ w ∷ [])
@@ -80,7 +80,7 @@ module _ (c : In-Accepted-take_readings) where
   X = units_taken (h t).readings
 
   taken : check_readings 0 (h t).readings ≡ Accepted
-  taken = sym r.take_readings.ensures.0 ∙ c.enum_told-in-Accepted-take_readings-1.given.1
+  taken = sym r.take_readings.ensures.answer ∙ c.enum_told-in-Accepted-take_readings-1.given.1
 
   accepted : before_store (chosen t) (steps t) (h t) (length (out t)) ≡ Accepted
   accepted = checked t Accepted Accepted w.before.enum_told-1.given.1 taken
@@ -96,10 +96,10 @@ module _ (c : In-Accepted-take_readings) where
 
   -- they stand at the front
   x-is : take (n - 0) room ≡ X
-  x-is = let z : n - 0 ≡ n = omega arith in ap (λ (k : ℕ). take k room) z ∙ ap (take n) r.take_readings.ensures.1 ∙ take_at X _ n n-is
+  x-is = let z : n - 0 ≡ n = omega arith in ap (λ (k : ℕ). take k room) z ∙ ap (take n) r.take_readings.ensures.room ∙ take_at X _ n n-is
 
   enough : n ≤ length room
-  enough = omega (arith, n-is, simp length-append at (ap length r.take_readings.ensures.1))
+  enough = omega (arith, n-is, simp length-append at (ap length r.take_readings.ensures.room))
 
 pub enum_known-r : goal.enum_known-r
 enum_known-r c = c.in-Refused.keys1
@@ -131,18 +131,15 @@ search_units_by-requires c = let d = c.before.before.before in let a = t d in
     subst (CoreTaken (chosen a) (steps a) (h a) (length (out a))) (sym (x-is d)) (core-taken (chosen a) (steps a) (h a) (length (out a)) (fvecs-sound (b a)) (asked (w d).before) (taken d) (X d) refl (long d))
 
 pub returns-in-Refused : goal.returns-in-Refused
-returns-in-Refused c = let a = c.before.before.before.before in let f = by-refused (chosen a) (steps a) (h a) (store a) (out a) _ (checked a _ _ c.before.before.r-1.given.1 refl) in (c.no_hour.ensures ∙ f.0, f.1)
+returns-in-Refused c = let a = c.before.before.before.before in let f = by-refused (chosen a) (steps a) (h a) (store a) (out a) _ (checked a _ _ c.before.before.r-1.given.1 refl) in record { answer = c.no_hour.ensures ∙ f.0; room = f.1 }
 
 pub returns-in-Refused-take_readings : goal.returns-in-Refused-take_readings
 returns-in-Refused-take_readings c = let l = c.before.before.before.before.before in let e = l.before.before.before in let a = k e in
-    let f = by-refused (chosen a) (steps a) (h a) (store a) (out a) _ (checked a Accepted _ e.enum_told-1.given.1 (sym l.take_readings.ensures.0 ∙ c.before.before.r-in-Refused-take_readings-1.given.1)) in (c.no_hour-in-Refused-take_readings.ensures ∙ f.0, f.1)
+    let f = by-refused (chosen a) (steps a) (h a) (store a) (out a) _ (checked a Accepted _ e.enum_told-1.given.1 (sym l.take_readings.ensures.answer ∙ c.before.before.r-in-Refused-take_readings-1.given.1)) in record { answer = c.no_hour-in-Refused-take_readings.ensures ∙ f.0; room = f.1 }
 
 pub shape_of-entries : goal.shape_of-entries
 shape_of-entries c = c.entries-1.given
 
 pub returns-in-Accepted-take_readings : goal.returns-in-Accepted-take_readings
 returns-in-Accepted-take_readings c = let p = c.before in let d = p.before.before.before.before in let a = t d in let q : ℕ = nat_abs (chosen a).q in let m : ℕ = nat_abs (chosen a).m in
-    let f = by-is (chosen a) (steps a) (h a) (store a) (out a) (accepted d) (X d) refl (long d) in (
-      p.search_units_by.ensures.0 ∙ ap (λ (x : List ℤ). let K = length x / 8 in found (check_store (length (steps a)) q m K (store a)) (best_in q m (steps a) x K (store a))) (x-is d) ∙ f.0,
-      p.search_units_by.ensures.1 ∙ ap (λ (x : List ℤ). written (check_store (length (steps a)) q m (length x / 8) (store a)) (query_table q x) (out a)) (x-is d) ∙ f.1,
-    )
+    let f = by-is (chosen a) (steps a) (h a) (store a) (out a) (accepted d) (X d) refl (long d) in record { answer = p.search_units_by.ensures.answer ∙ ap (λ (x : List ℤ). let K = length x / 8 in found (check_store (length (steps a)) q m K (store a)) (best_in q m (steps a) x K (store a))) (x-is d) ∙ f.0; room = p.search_units_by.ensures.room ∙ ap (λ (x : List ℤ). written (check_store (length (steps a)) q m (length x / 8) (store a)) (query_table q x) (out a)) (x-is d) ∙ f.1 }

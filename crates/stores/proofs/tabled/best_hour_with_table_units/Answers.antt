@@ -36,7 +36,7 @@ module _ (c : After-check_units_asked) where
   store = s.args.store.now
 
   abbrev out : List ℤ
-  out = s.args.entries-1.now
+  out = s.args.entries.now
 
   checked : (v : Verdict) → c.check_units_asked.result ≡ v → before_store chosen steps h (length out) ≡ v
   checked v e = sym c.check_units_asked.ensures ∙ e
@@ -69,11 +69,11 @@ search_units_by-requires c = let t = c.before in let a = k t in
     core-taken (chosen a) (steps a) (h a) (length (out a)) (units-sound (x a)) (asked-taken (chosen a) (steps a) (h a) (length (out a)) (both t).0) (both t).1 (x a) (same t) (long t)
 
 pub returns-in-Refused : goal.returns-in-Refused
-returns-in-Refused c = let a = c.before.before.before.before in let f = by-refused (chosen a) (steps a) (h a) (store a) (out a) _ (checked a _ c.before.before.r-1.given.1) in (c.no_hour.ensures ∙ f.0, f.1)
+returns-in-Refused c = let a = c.before.before.before.before in let f = by-refused (chosen a) (steps a) (h a) (store a) (out a) _ (checked a _ c.before.before.r-1.given.1) in record { answer = c.no_hour.ensures ∙ f.0; room = f.1 }
 
 pub shape_of-entries : goal.shape_of-entries
 shape_of-entries c = c.entries-1.given
 
 pub returns-in-Accepted : goal.returns-in-Accepted
 returns-in-Accepted c = let p = c.before in let t = p.before.before in let a = k t in
-    let f = by-is (chosen a) (steps a) (h a) (store a) (out a) (accepted t) (x a) (same t) (long t) in (p.search_units_by.ensures.0 ∙ f.0, p.search_units_by.ensures.1 ∙ f.1)
+    let f = by-is (chosen a) (steps a) (h a) (store a) (out a) (accepted t) (x a) (same t) (long t) in record { answer = p.search_units_by.ensures.answer ∙ f.0; room = p.search_units_by.ensures.room ∙ f.1 }

@@ -9,8 +9,8 @@ use mir.Syntax.{w64}
 use mir.Val.{SFits, to_z, of_z}
 use mir.Facts.{to_z-of_z}
 use Rattle.integers.specs.Vectors.{Sized}
-use Rattle.layers-m.specs.Digits.{joined, cut}
-use Rattle.layers-m.specs.Sizes.{Base}
+use Rattle.layers.specs.Digits.{joined, cut}
+use Rattle.layers.specs.Sizes.{Base}
 use Rattle.records.specs.Eight.Codes.{Coder}
 use Rattle.records.specs.Laws.Frames.{blocks-whole}
 use Rattle.records.specs.Frames.{Whole}
@@ -18,7 +18,7 @@ use Rattle.refusals.specs.declared.Verdict.{Verdict}
 use Rattle.refusals.specs.declared.Verdict.TheVariants.{Accepted}
 use Rattle.refusals.specs.Answers.{written}
 use Rattle.refusals.specs.Limits.{blocks_most}
-use Rattle.tables.specs.Laws.entries-1.{query_table-long}
+use Rattle.tables.specs.Laws.Entries.{query_table-long}
 use Rattle.tables.specs.Tables.{query_most, part_size, query_part, query_table}
 use Rattle.stores.specs.declared.Best.{Best}
 use Rattle.stores.specs.Laws.Asked.{store-taken}
@@ -98,7 +98,7 @@ module _ (c : After-fill_blocks) where
   a = t d
 
   abbrev out : List ℤ
-  out = (s a).args.entries-1.now
+  out = (s a).args.entries.now
 
   abbrev filled : List ℤ
   filled = c.fill_blocks.new.entries
@@ -127,7 +127,7 @@ base-q-requires c = (s (k c)).requires.0.allowed
 
 pub fill_blocks-requires : goal.fill_blocks-requires
 fill_blocks-requires c = let d = c.before in let a = t d in
-    subst (λ (z : ℤ). Base z × (nat_abs z ≤ query_most) × Sized (8 * K a) (2 ^ 24) (X a) × (part_size (nat_abs z) * K a ≤ length (s a).args.entries-1.now) × (K a ≤ 64)) (sym (q-is d)) (
+    subst (λ (z : ℤ). Base z × (nat_abs z ≤ query_most) × Sized (8 * K a) (2 ^ 24) (X a) × (part_size (nat_abs z) * K a ≤ length (s a).args.entries.now) × (K a ≤ 64)) (sym (q-is d)) (
       (s a).requires.0.coder.base-q,
       (s a).requires.2,
       sized d,
@@ -145,17 +145,11 @@ best_body-requires c = let f = c.before.before in let b = d f in let e = a f in 
 )
 
 pub returns-in-Refused : goal.returns-in-Refused
-returns-in-Refused c = let a = c.before.before.before.before in let w = sym c.before.before.r-1.given.1 ∙ checked a in (
-  c.no_hour.ensures ∙ ap (λ (v : Verdict). found v (best a)) w,
-  ap (λ (v : Verdict). written v (query_table (q a) (X a)) (s a).args.entries-1.now) w,
-)
+returns-in-Refused c = let a = c.before.before.before.before in let w = sym c.before.before.r-1.given.1 ∙ checked a in record { answer = c.no_hour.ensures ∙ ap (λ (v : Verdict). found v (best a)) w; room = ap (λ (v : Verdict). written v (query_table (q a) (X a)) (s a).args.entries.now) w }
 
 pub shape_of-entries : goal.shape_of-entries
 shape_of-entries c = c.before.before.before.entries-1.given
 
 pub returns-in-Accepted : goal.returns-in-Accepted
-returns-in-Accepted c = let f = c.before.before.before.before in let b = d f in let e = a f in let w = sym (accepted b.before) in (
-  c.hour_found.ensures ∙ ap (found Accepted) (c.before.best_body.ensures ∙ ap₂ (λ (z : ℤ) (m : ℕ). best_in (nat_abs z) m (steps e) (X e) (K e) (store e)) (q-is b) (m-is e))
-      ∙ ap (λ (v : Verdict). found v (best e)) w,
-  filled_is f ∙ ap (λ (n : ℕ). query_table (q e) (X e) ++ drop n (out f)) (sym (query_table-long (q e) (X e))) ∙ ap (λ (v : Verdict). written v (query_table (q e) (X e)) (out f)) w,
-)
+returns-in-Accepted c = let f = c.before.before.before.before in let b = d f in let e = a f in let w = sym (accepted b.before) in record { answer = c.hour_found.ensures ∙ ap (found Accepted) (c.before.best_body.ensures ∙ ap₂ (λ (z : ℤ) (m : ℕ). best_in (nat_abs z) m (steps e) (X e) (K e) (store e)) (q-is b) (m-is e))
+      ∙ ap (λ (v : Verdict). found v (best e)) w; room = filled_is f ∙ ap (λ (n : ℕ). query_table (q e) (X e) ++ drop n (out f)) (sym (query_table-long (q e) (X e))) ∙ ap (λ (v : Verdict). written v (query_table (q e) (X e)) (out f)) w }

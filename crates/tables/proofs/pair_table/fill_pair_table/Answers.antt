@@ -10,7 +10,7 @@ use Rattle.refusals.specs.declared.Verdict.{Verdict}
 use Rattle.refusals.specs.declared.Verdict.TheVariants.{Accepted}
 use Rattle.refusals.specs.Answers.{valued, written}
 use Rattle.tables.specs.Filling.{check_pair_table, pair_filled, pair_table_room}
-use Rattle.tables.specs.Laws.entries-1.{pair_table-long}
+use Rattle.tables.specs.Laws.Entries.{pair_table-long}
 use Rattle.tables.specs.Laws.Filling.{PairTableTaken, pair-table-taken}
 use Rattle.tables.specs.Tables.{pair_table}
 use Rattle.tables.proofs.pair_table.fill_pair_table.Goals as goal
@@ -21,7 +21,7 @@ module _ (c : After-check_pair_table) where
   s = c.before
 
   abbrev found : List ℤ
-  found = s.args.entries-1.now
+  found = s.args.entries.now
 
   checked : (v : Verdict) → c.check_pair_table.result ≡ v → v ≡ check_pair_table s.args.s (length found)
   checked v e = sym e ∙ c.check_pair_table.ensures
@@ -55,14 +55,11 @@ overflow_cast-result c = record { sfits = omega arith }
 pub returns-in-Refused : goal.returns-in-Refused
 unfolding pair_filled pair_table_room
 returns-in-Refused c = let k = c.before.before.before.before in let e = checked k _ c.before.before.r-1.given.1 in
-    (c.refused.ensures ∙ ap (λ (v : Verdict). valued v (pos 65536)) e, ap (λ (v : Verdict). written v pair_table (found k)) e)
+    record { answer = c.refused.ensures ∙ ap (λ (v : Verdict). valued v (pos 65536)) e; room = ap (λ (v : Verdict). written v pair_table (found k)) e }
 
 pub shape_of-entries : goal.shape_of-entries
 shape_of-entries c = c.entries-1.given
 
 pub returns-in-Accepted : goal.returns-in-Accepted
 unfolding pair_filled pair_table_room
-returns-in-Accepted c = let p = c.before in let t = p.before.before.before.before in let e = accepted t in (
-  ap (λ (v : Verdict). valued v (pos 65536)) e,
-  p.fill_rows.ensures ∙ ap (λ (n : ℕ). pair_table ++ drop n (found (k t))) (sym pair_table-long) ∙ ap (λ (v : Verdict). written v pair_table (found (k t))) e,
-)
+returns-in-Accepted c = let p = c.before in let t = p.before.before.before.before in let e = accepted t in record { answer = ap (λ (v : Verdict). valued v (pos 65536)) e; room = p.fill_rows.ensures ∙ ap (λ (n : ℕ). pair_table ++ drop n (found (k t))) (sym pair_table-long) ∙ ap (λ (v : Verdict). written v pair_table (found (k t))) e }

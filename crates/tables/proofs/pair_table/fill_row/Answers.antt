@@ -51,7 +51,7 @@ module _ (l : At-loop-j) where
   e-at : e ≡ layer_at 2 (entry_of 2 ds)
   e-at = sym (layer_at-entry 2 ds s.requires.1)
 
-  is-layer : IsLayer 8 2 l.loop-j.js-1
+  is-layer : IsLayer 8 2 l.loop-j.js
   is-layer = subst (IsLayer 8 2) (sym l.loop-j.invariant.2) (digits_of-layer 2 two 8 j)
 
 -- the layer point j

@@ -9,11 +9,11 @@ use lib.IntN.{ℤ}
 use lib.ListN.{length, take, drop, length-take, length-drop}
 use Rattle.layers.specs.Digits.{IsLayer, digits_of}
 use Rattle.layers.specs.E8.{layer_point8}
-use Rattle.layers.specs.Laws.entries-1.{digits_of-layer}
+use Rattle.layers.specs.Laws.Entries.{digits_of-layer}
 use Rattle.layers.specs.Laws.Loops.{write-in}
 use Rattle.records.specs.Laws.Parts.{front_long}
 use Rattle.coding.specs.Laws.Counting.{digits-zero, counted_next}
-use Rattle.tables.specs.Laws.entries-1.{pair_rows, rows_more, rows_all}
+use Rattle.tables.specs.Laws.Entries.{pair_rows, rows_more, rows_all}
 use Rattle.coding.specs.Counting.{counted_up}
 use Rattle.tables.specs.Tables.{layer_at, pair_row}
 use Rattle.tables.proofs.pair_table.fill_rows.Goals as goal
@@ -30,15 +30,15 @@ module _ (l : At-loop-i) where
   i = l.loop-i.i
 
   abbrev found : List ℤ
-  found = s.args.entries-1.now
+  found = s.args.entries.now
 
-  is-layer : IsLayer 8 2 l.loop-i.ds-1
+  is-layer : IsLayer 8 2 l.loop-i.ds
   is-layer = subst (IsLayer 8 2) (sym l.loop-i.invariant.2) (digits_of-layer 2 two 8 i)
 
   whole : 256 * i + 256 - 256 * i ≡ 256
   whole = omega arith
 
-  room : i < 256 → 256 * i + 256 ≤ length l.loop-i.entries-1
+  room : i < 256 → 256 * i + 256 ≤ length l.loop-i.entries
   room h = omega (arith, l.loop-i.invariant.1, s.requires.1)
 
 -- the row is filled, and comes back
@@ -55,12 +55,12 @@ module _ (c : After-fill_row) where
   within : i l < 256
   within = c.before.before.before.loop-i-test.true
 
-  more-is : put_mid (256 * i l) (256 * i l + 256 - 256 * i l) l.loop-i.entries-1 row ≡ pair_rows (i l + 1) ++ drop (256 * (i l + 1)) (found l)
+  more-is : put_mid (256 * i l) (256 * i l + 256 - 256 * i l) l.loop-i.entries row ≡ pair_rows (i l + 1) ++ drop (256 * (i l + 1)) (found l)
   more-is =
       let a : ℕ = 256 * i l in let next : a + 256 ≡ 256 * (i l + 1) = omega arith in
-      ap₂ (λ (k : ℕ) (r : List ℤ). put_mid a k l.loop-i.entries-1 r) (whole l) row_is
+      ap₂ (λ (k : ℕ) (r : List ℤ). put_mid a k l.loop-i.entries r) (whole l) row_is
       ∙ ap (λ (o : List ℤ). take a o ++ (pair_row (layer_at 2 (i l)) ++ drop 256 (drop a o))) l.loop-i.invariant.3
-      ∙ write-in (pair_rows (i l)) (pair_row (layer_at 2 (i l))) (found l) a 256 (front_long (pair_rows (i l)) (found l) a l.loop-i.entries-1 l.loop-i.invariant.3 l.loop-i.invariant.1 (omega (arith, room l within, l.loop-i.invariant.1)))
+      ∙ write-in (pair_rows (i l)) (pair_row (layer_at 2 (i l))) (found l) a 256 (front_long (pair_rows (i l)) (found l) a l.loop-i.entries l.loop-i.invariant.3 l.loop-i.invariant.1 (omega (arith, room l within, l.loop-i.invariant.1)))
       ∙ ap₂ (λ (w : List ℤ) (k : ℕ). w ++ drop k (found l)) (sym (rows_more (i l))) next
 
 pub loop-i-init : goal.loop-i-init

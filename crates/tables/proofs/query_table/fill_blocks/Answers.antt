@@ -19,7 +19,7 @@ use Rattle.records.specs.Laws.Parts.{part-ends}
 use Rattle.slices.specs.Laws.Slices.{point_by-is, slice-sizes}
 use Rattle.slices.specs.Slices.{Slice, Sizes, point_by}
 use Rattle.tables.specs.Groups.{GroupFilled}
-use Rattle.tables.specs.Laws.entries-1.{part-most, part-slices, slice-size}
+use Rattle.tables.specs.Laws.Entries.{part-most, part-slices, slice-size}
 use Rattle.tables.specs.Laws.Groups.{FilledTo, filled_none, filled_more, filled-all}
 use Rattle.tables.specs.Tables.{part_size, layer_at}
 use Rattle.tables.proofs.query_table.fill_blocks.Goals as goal
@@ -71,7 +71,7 @@ module _ (l : At-loop-last) where
   X = a.args.x.now
 
   abbrev found : List ℤ
-  found = a.args.entries-1.now
+  found = a.args.entries.now
 
   abbrev d : ℕ
   d = l.loop-last.last
@@ -79,7 +79,7 @@ module _ (l : At-loop-last) where
   d-most : d ≤ q a
   d-most = simp (to_z-of_z, a.ranges.q) at l.loop-last.invariant.0
 
-  filled : FilledTo (q a) a.args.k X found (q a ^ 7 * d) l.loop-last.entries-1
+  filled : FilledTo (q a) a.args.k X found (q a ^ 7 * d) l.loop-last.entries
   filled = simp (to_z-of_z, a.ranges.q) at l.loop-last.invariant.4
 
 -- a slice that is left
@@ -142,15 +142,15 @@ module _ (c : After-fill_slices) where
   abbrev point : ℕ → List ℤ
   point = point_by (z (a e)) (halves f) (lows f) (highs f)
 
-  group : GroupFilled (part_size (q (a e))) (q (a e) ^ 7 * d e) (q (a e) ^ 7) point (X e) e.loop-last.entries-1 k more
+  group : GroupFilled (part_size (q (a e))) (q (a e) ^ 7 * d e) (q (a e) ^ 7) point (X e) e.loop-last.entries k more
   group = let p = e.before in
-      subst (λ (m : ℕ). GroupFilled (part_size (q (a e))) (m * d e) m point (X e) e.loop-last.entries-1 k more) (n-is p)
-      (subst (λ (m : ℕ). GroupFilled m (n p * d e) (n p) point (X e) e.loop-last.entries-1 k more) (size_is p)
-      (subst (λ (z : ℤ). GroupFilled p.part_size-size.result (n p * d e) (n p) (point_by z (halves f) (lows f) (highs f)) (X e) e.loop-last.entries-1 k more) (base_same (a e)) c.fill_slices.ensures))
+      subst (λ (m : ℕ). GroupFilled (part_size (q (a e))) (m * d e) m point (X e) e.loop-last.entries k more) (n-is p)
+      (subst (λ (m : ℕ). GroupFilled m (n p * d e) (n p) point (X e) e.loop-last.entries k more) (size_is p)
+      (subst (λ (z : ℤ). GroupFilled p.part_size-size.result (n p * d e) (n p) (point_by z (halves f) (lows f) (highs f)) (X e) e.loop-last.entries k more) (base_same (a e)) c.fill_slices.ensures))
 
   more-is : FilledTo (q (a e)) k (X e) (found e) (q (a e) ^ 7 * (d e + 1)) more
   more-is = subst (λ (i : ℕ). FilledTo (q (a e)) k (X e) (found e) i more) (omega arith)
-      (filled_more (q (a e)) k (X e) (found e) (q (a e) ^ 7 * d e) e.loop-last.entries-1 (filled e) (q (a e) ^ 7) point more group (ends (i f)) (point-is f))
+      (filled_more (q (a e)) k (X e) (found e) (q (a e) ^ 7 * d e) e.loop-last.entries (filled e) (q (a e) ^ 7) point more group (ends (i f)) (point-is f))
 
 pub part_size-size-requires : goal.part_size-size-requires
 part_size-size-requires c = simp (to_z-of_z, c.ranges.q) (c.requires.0, c.requires.1)
@@ -173,12 +173,12 @@ loop-last-init c = let g = (s c).args in let p : ℕ = nat_abs (to_z w64 (of_z w
   length-replicate {A = ℕ} 16384 0,
   length-replicate {A = List ℤ} 256 (replicate 3 (pos 0)),
   length-replicate {A = List ℤ} 256 (replicate 5 (pos 0)),
-  subst (λ (i : ℕ). FilledTo p g.k g.x.now g.entries-1.now i g.entries-1.now) none (filled_none p g.k g.x.now g.entries-1.now),
+  subst (λ (i : ℕ). FilledTo p g.k g.x.now g.entries.now i g.entries.now) none (filled_none p g.k g.x.now g.entries.now),
 )
 
 pub fill_choices-requires : goal.fill_choices-requires
 fill_choices-requires c = let i = c.before.before.before in let v = (l i).loop-last.invariant in
-    subst (λ (z : ℤ). Base z × (nat_abs z ≤ 4) × (d (l i) < nat_abs z) × (length (l i).loop-last.halves-1 ≡ 16384) × (length (l i).loop-last.lows-1 ≡ 256) × (length (l i).loop-last.highs-1 ≡ 256)) (sym (base_same (b i)))
+    subst (λ (z : ℤ). Base z × (nat_abs z ≤ 4) × (d (l i) < nat_abs z) × (length (l i).loop-last.halves ≡ 16384) × (length (l i).loop-last.lows ≡ 256) × (length (l i).loop-last.highs ≡ 256)) (sym (base_same (b i)))
     ((b i).requires.0, (b i).requires.1, less i, v.1, v.2, v.3)
 
 pub slice_bounds-fill_slices-end : goal.slice_bounds-fill_slices-end
@@ -193,14 +193,14 @@ overflow_mul-n c = let f = c.before.before.before in record { fits = omega (arit
 pub fill_slices-requires : goal.fill_slices-requires
 fill_slices-requires c = let f = c.before.before.before.before in let p = (l (i f)).before in let t = t f in
     subst (λ (z : ℤ). Sizes z (halves f) (lows f) (highs f) × (n p ≡ nat_abs z ^ 7) × Sized (8 * t.args.k) (2 ^ 24) t.args.x.now × (n p * d (l (i f)) + n p ≤ p.part_size-size.result)
-    × (p.part_size-size.result ≤ 65536) × (t.args.k ≤ 64) × (p.part_size-size.result * t.args.k ≤ length (l (i f)).loop-last.entries-1)) (sym (base_same t)) (
+    × (p.part_size-size.result ≤ 65536) × (t.args.k ≤ 64) × (p.part_size-size.result * t.args.k ≤ length (l (i f)).loop-last.entries)) (sym (base_same t)) (
       sizes f,
       n-is p,
       t.requires.2,
       omega (arith, ends-n f, size_is p),
       omega (arith, size_is p, part-most (q t) t.requires.1),
       t.requires.4,
-      subst (λ (m : ℕ). m * t.args.k ≤ length (l (i f)).loop-last.entries-1) (sym (size_is p)) (omega (arith, t.requires.3, (filled (l (i f))).long)),
+      subst (λ (m : ℕ). m * t.args.k ≤ length (l (i f)).loop-last.entries) (sym (size_is p)) (omega (arith, t.requires.3, (filled (l (i f))).long)),
     )
 
 pub overflow_add-last : goal.overflow_add-last
@@ -217,5 +217,5 @@ shape_of-entries c = (filled c.before).long
 
 pub returns : goal.returns
 returns c = let l = c.before in let k = (a l).args.k in let e : d l ≡ q (a l) = omega (arith, d-most l, simp (to_z-of_z, (a l).ranges.q) at c.loop-last-test.false) in
-    filled-all (q (a l)) k (X l) (found l) l.loop-last.entries-1
-    (subst (λ (i : ℕ). FilledTo (q (a l)) k (X l) (found l) i l.loop-last.entries-1) (ap (λ (d : ℕ). q (a l) ^ 7 * d) e ∙ omega (arith, part-slices (q (a l)))) (filled l)) (a l).requires.3
+    filled-all (q (a l)) k (X l) (found l) l.loop-last.entries
+    (subst (λ (i : ℕ). FilledTo (q (a l)) k (X l) (found l) i l.loop-last.entries) (ap (λ (d : ℕ). q (a l) ^ 7 * d) e ∙ omega (arith, part-slices (q (a l)))) (filled l)) (a l).requires.3

@@ -19,7 +19,7 @@ use Rattle.records.specs.Laws.Parts.{part-ends}
 use Rattle.slices.specs.Laws.Slices.{point_by-is, slice-sizes}
 use Rattle.slices.specs.Slices.{Slice, Sizes, point_by}
 use Rattle.tables.specs.Groups.{GroupFilled}
-use Rattle.tables.specs.Laws.entries-1.{part-most, part-slices, slice-size}
+use Rattle.tables.specs.Laws.Entries.{part-most, part-slices, slice-size}
 use Rattle.tables.specs.Laws.Groups.{FilledTo, filled_none, filled_more, filled-all}
 use Rattle.tables.specs.Tables.{part_size, layer_at}
 use Rattle.tables.proofs.query_table.fill_blocks.Given as goal

@@ -37,7 +37,7 @@ module _ (c : After-check_fvecs_query) where
   h = fvecs_hour b
 
   abbrev out : List ℤ
-  out = s.args.entries-1.now
+  out = s.args.entries.now
 
   -- by what the checks before the readings say, and the readings
   checked : (v w : Verdict) → c.check_fvecs_query.result ≡ v → check_readings 0 h.readings ≡ w → check_query_table s.args.s h (length out) ≡ first_refusal (v ∷ w ∷ [])
@@ -69,7 +69,7 @@ module _ (c : In-Accepted-take_readings) where
   X = units_taken (h t).readings
 
   accepted : check_query_table (s t).args.s (h t) (length (out t)) ≡ Accepted
-  accepted = checked t Accepted Accepted w.before.enum_told-1.given.1 (sym r.take_readings.ensures.0 ∙ c.enum_told-in-Accepted-take_readings-1.given.1)
+  accepted = checked t Accepted Accepted w.before.enum_told-1.given.1 (sym r.take_readings.ensures.answer ∙ c.enum_told-in-Accepted-take_readings-1.given.1)
 
   taken : QueryTableTaken (s t).args.s (h t) (length (out t))
   taken = query-table-taken (s t).args.s (h t) (length (out t)) (fvecs-sound (b t)) accepted
@@ -82,10 +82,10 @@ module _ (c : In-Accepted-take_readings) where
 
   -- they stand at the front
   x-is : take (n - 0) room ≡ X
-  x-is = let z : n - 0 ≡ n = omega arith in ap (λ (k : ℕ). take k room) z ∙ ap (take n) r.take_readings.ensures.1 ∙ take_at X _ n n-is
+  x-is = let z : n - 0 ≡ n = omega arith in ap (λ (k : ℕ). take k room) z ∙ ap (take n) r.take_readings.ensures.room ∙ take_at X _ n n-is
 
   enough : n ≤ length room
-  enough = omega (arith, n-is, simp length-append at (ap length r.take_readings.ensures.1))
+  enough = omega (arith, n-is, simp length-append at (ap length r.take_readings.ensures.room))
 
 -- q as it is given to the core
 module _ (c : After-base) where
@@ -134,18 +134,15 @@ fill_units-requires c = let b = c.before in let d = told b in let a = (s (t d)).
     ))
 
 pub returns-in-Refused : goal.returns-in-Refused
-returns-in-Refused c = let k = c.before.before.before.before in let f = filled-refused (s k).args.s (h k) (out k) _ (checked k _ _ c.before.before.r-1.given.1 refl) in (c.refused.ensures ∙ f.0, f.1)
+returns-in-Refused c = let k = c.before.before.before.before in let f = filled-refused (s k).args.s (h k) (out k) _ (checked k _ _ c.before.before.r-1.given.1 refl) in record { answer = c.refused.ensures ∙ f.0; room = f.1 }
 
 pub returns-in-Refused-take_readings : goal.returns-in-Refused-take_readings
 returns-in-Refused-take_readings c = let a = c.before.before.before.before.before in let e = a.before.before.before in let d = k e in
-    let f = filled-refused (s d).args.s (h d) (out d) _ (checked d Accepted _ e.enum_told-1.given.1 (sym a.take_readings.ensures.0 ∙ c.before.before.r-in-Refused-take_readings-1.given.1)) in (c.refused-in-Refused-take_readings.ensures ∙ f.0, f.1)
+    let f = filled-refused (s d).args.s (h d) (out d) _ (checked d Accepted _ e.enum_told-1.given.1 (sym a.take_readings.ensures.answer ∙ c.before.before.r-in-Refused-take_readings-1.given.1)) in record { answer = c.refused-in-Refused-take_readings.ensures ∙ f.0; room = f.1 }
 
 pub shape_of-entries : goal.shape_of-entries
 shape_of-entries c = c.entries-1.given
 
 pub returns-in-Accepted-take_readings : goal.returns-in-Accepted-take_readings
 returns-in-Accepted-take_readings c = let p = c.before in let b = p.before.before in let d = told b in let a = t d in
-    let f = filled-accepted (s a).args.s (h a) (out a) (X d) refl (taken d).whole (accepted d) in (
-      p.fill_units.ensures.0 ∙ ap₂ (λ (z : ℤ) (x : List ℤ). valued Accepted (pos (part_size (nat_abs z) * (length x / 8)))) (q-is b) (x-is d) ∙ f.0,
-      p.fill_units.ensures.1 ∙ ap₂ (λ (z : ℤ) (x : List ℤ). written Accepted (query_table (nat_abs z) x) (out a)) (q-is b) (x-is d) ∙ f.1,
-    )
+    let f = filled-accepted (s a).args.s (h a) (out a) (X d) refl (taken d).whole (accepted d) in record { answer = p.fill_units.ensures.answer ∙ ap₂ (λ (z : ℤ) (x : List ℤ). valued Accepted (pos (part_size (nat_abs z) * (length x / 8)))) (q-is b) (x-is d) ∙ f.0; room = p.fill_units.ensures.room ∙ ap₂ (λ (z : ℤ) (x : List ℤ). written Accepted (query_table (nat_abs z) x) (out a)) (q-is b) (x-is d) ∙ f.1 }

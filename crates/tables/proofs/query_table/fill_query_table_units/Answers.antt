@@ -32,7 +32,7 @@ module _ (c : After-check_units_query) where
   h = units_hour x
 
   abbrev out : List ℤ
-  out = s.args.entries-1.now
+  out = s.args.entries.now
 
   checked : (v : Verdict) → c.check_units_query.result ≡ v → check_query_table s.args.s h (length out) ≡ v
   checked v e = sym c.check_units_query.ensures ∙ e
@@ -81,14 +81,11 @@ fill_units-requires c = let b = c.before in let t = told b in let a = (s (k t)).
     )
 
 pub returns-in-Refused : goal.returns-in-Refused
-returns-in-Refused c = let k = c.before.before.before.before in let f = filled-refused (s k).args.s (h k) (out k) _ (checked k _ c.before.before.r-1.given.1) in (c.refused.ensures ∙ f.0, f.1)
+returns-in-Refused c = let k = c.before.before.before.before in let f = filled-refused (s k).args.s (h k) (out k) _ (checked k _ c.before.before.r-1.given.1) in record { answer = c.refused.ensures ∙ f.0; room = f.1 }
 
 pub shape_of-entries : goal.shape_of-entries
 shape_of-entries c = c.entries-1.given
 
 pub returns-in-Accepted : goal.returns-in-Accepted
 returns-in-Accepted c = let p = c.before in let b = p.before.before in let t = told b in let a = k t in
-    let f = filled-accepted (s a).args.s (h a) (out a) (x a) (same t) (long t) (accepted t) in (
-      p.fill_units.ensures.0 ∙ ap (λ (z : ℤ). valued Accepted (pos (part_size (nat_abs z) * (length (x a) / 8)))) (q-is b) ∙ f.0,
-      p.fill_units.ensures.1 ∙ ap (λ (z : ℤ). written Accepted (query_table (nat_abs z) (x a)) (out a)) (q-is b) ∙ f.1,
-    )
+    let f = filled-accepted (s a).args.s (h a) (out a) (x a) (same t) (long t) (accepted t) in record { answer = p.fill_units.ensures.answer ∙ ap (λ (z : ℤ). valued Accepted (pos (part_size (nat_abs z) * (length (x a) / 8)))) (q-is b) ∙ f.0; room = p.fill_units.ensures.room ∙ ap (λ (z : ℤ). written Accepted (query_table (nat_abs z) (x a)) (out a)) (q-is b) ∙ f.1 }

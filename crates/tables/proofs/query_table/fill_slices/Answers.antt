@@ -27,7 +27,7 @@ module _ (l : At-loop-b) where
   abbrev point : ℕ → List ℤ
   point = point_by s.args.q s.args.choices.now s.args.lows.now s.args.highs.now
 
-  filled : GroupFilled s.args.size s.args.first s.args.n point s.args.x.now s.args.entries-1.now l.loop-b.b l.loop-b.entries-1
+  filled : GroupFilled s.args.size s.args.first s.args.n point s.args.x.now s.args.entries.now l.loop-b.b l.loop-b.entries
   filled = simp (to_z-of_z, s.ranges.q) at l.loop-b.invariant.1
 
 -- block b and its entries
@@ -51,7 +51,7 @@ module _ (c : In-loop-b) where
   n = a.args.n
 
   abbrev found : List ℤ
-  found = l.loop-b.entries-1
+  found = l.loop-b.entries
 
   ends : 8 * b + 8 ≤ length X
   ends = omega (arith, a.requires.2.long, c.loop-b-test.true)
@@ -91,13 +91,13 @@ module _ (c : After-fill_slice) where
       (subst (λ (m : ℕ). Dots m (point (l d)) X' part) (sym (a d).requires.1)
       (subst (λ (z : ℤ). Dots (nat_abs z ^ 7) (point_by z g.choices.now g.lows.now g.highs.now) X' part) (to_z-of_z (a d).ranges.q) c.fill_slice.ensures))
 
-  more-is : GroupFilled (a d).args.size (a d).args.first (n d) (point (l d)) (X d) (a d).args.entries-1.now (b d + 1) (put_mid (from d) (from d + n d - from d) (found d) part)
+  more-is : GroupFilled (a d).args.size (a d).args.first (n d) (point (l d)) (X d) (a d).args.entries.now (b d + 1) (put_mid (from d) (from d + n d - from d) (found d) part)
   more-is = let g = (a d).args in
-      subst (λ (m : ℕ). GroupFilled g.size g.first (n d) (point (l d)) (X d) g.entries-1.now (b d + 1) (put_mid (from d) m (found d) part)) (sym (whole d))
-      (group-more g.size g.first (n d) (point (l d)) (X d) g.entries-1.now (b d) (found d) part (filled (l d)) part-is (a d).requires.3 (lent d))
+      subst (λ (m : ℕ). GroupFilled g.size g.first (n d) (point (l d)) (X d) g.entries.now (b d + 1) (put_mid (from d) m (found d) part)) (sym (whole d))
+      (group-more g.size g.first (n d) (point (l d)) (X d) g.entries.now (b d) (found d) part (filled (l d)) part-is (a d).requires.3 (lent d))
 
 pub loop-b-init : goal.loop-b-init
-loop-b-init c = let a = c.before.args in (omega arith, group-none a.size a.first a.n _ a.x.now a.entries-1.now)
+loop-b-init c = let a = c.before.args in (omega arith, group-none a.size a.first a.n _ a.x.now a.entries.now)
 
 pub overflow_mul-at : goal.overflow_mul-at
 overflow_mul-at c = omega (arith, (a c).requires.5, c.loop-b-test.true)
@@ -141,4 +141,4 @@ shape_of-entries c = c.before.loop-b.invariant.1.long
 
 pub returns : goal.returns
 returns c = let l = c.before in let g = (s l).args in
-    subst (λ (b : ℕ). GroupFilled g.size g.first g.n (point l) g.x.now g.entries-1.now b l.loop-b.entries-1) (omega (arith, c.loop-b-test.false, l.loop-b.invariant.0)) (filled l)
+    subst (λ (b : ℕ). GroupFilled g.size g.first g.n (point l) g.x.now g.entries.now b l.loop-b.entries) (omega (arith, c.loop-b-test.false, l.loop-b.invariant.0)) (filled l)

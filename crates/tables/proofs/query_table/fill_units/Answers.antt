@@ -15,7 +15,7 @@ use Rattle.records.specs.Frames.{Whole}
 use Rattle.refusals.specs.declared.Verdict.TheVariants.{Accepted}
 use Rattle.refusals.specs.Answers.{valued}
 use Rattle.refusals.specs.Limits.{blocks_most}
-use Rattle.tables.specs.Laws.entries-1.{part-most, query_table-long}
+use Rattle.tables.specs.Laws.Entries.{part-most, query_table-long}
 use Rattle.tables.specs.Tables.{part_size, query_table}
 use Rattle.tables.proofs.query_table.fill_units.Goals as goal
 use Rattle.tables.proofs.query_table.fill_units.Goals.{After-part_size, Start}
@@ -31,7 +31,7 @@ module _ (s : Start) where
   K = length X / 8
 
   abbrev found : List ℤ
-  found = s.args.entries-1.now
+  found = s.args.entries.now
 
   whole : Whole 8 1 blocks_most (length X)
   whole = blocks-whole 8 1 blocks_most (length X) s.requires.2.whole
@@ -72,7 +72,4 @@ shape_of-entries c = c.before.entries-1.given
 
 pub returns : goal.returns
 unfolding query_table
-returns c = let a = s c in (
-  simp (to_z-of_z, n-fits c) (ap (λ (n : ℕ). valued Accepted (pos n)) (n-is c)),
-  (simp (to_z-of_z, a.ranges.q) at c.before.before.fill_blocks.ensures) ∙ ap (λ (n : ℕ). query_table (q a) (X a) ++ drop n (found a)) (sym (query_table-long (q a) (X a))),
-)
+returns c = let a = s c in record { answer = simp (to_z-of_z, n-fits c) (ap (λ (n : ℕ). valued Accepted (pos n)) (n-is c)); room = (simp (to_z-of_z, a.ranges.q) at c.before.before.fill_blocks.ensures) ∙ ap (λ (n : ℕ). query_table (q a) (X a) ++ drop n (found a)) (sym (query_table-long (q a) (X a))) }
