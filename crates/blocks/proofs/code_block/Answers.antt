@@ -23,7 +23,13 @@ use Rattle.blocks.specs.Laws.Sizes.{divisor-positive, width-under}
 use Rattle.blocks.specs.Laws.Theorems.{fits-in-reach}
 use Rattle.blocks.specs.Trials.{point_at, fits, code_at, in_reach, room_at}
 use Rattle.blocks.proofs.code_block.Goals as goal
-use Rattle.blocks.proofs.code_block.Goals.{After-try_place, After-try_place-arg-1, After-width-reach, At-loop-t, Start}
+use Rattle.blocks.proofs.code_block.Goals.{After-try_place, After-try_place-arg-1, At-loop-t, Start}
+use Rattle.blocks.proofs.code_block.Lts as lts
+use Rattle.blocks.proofs.code_block.Tie as tie
+use Rattle.blocks.proofs.code_block.Reads as reads
+
+abbrev After-width-reach : Type 0
+After-width-reach = lts.After-width tie.the-claims reads.Pre reads.Post goal.the-invariant-loop-t goal.the-decreases-loop-t tie.handed_clauses
 
 either-long : (b : Bool) (f g : List ℕ) (n : ℕ) → length f ≡ n → length g ≡ n → length (cond b f g) ≡ n
 either-long true f g n h k = h
@@ -128,10 +134,10 @@ pub width-reach-requires : goal.width-reach-requires
 width-reach-requires c = let s = c.before in simp (to_z-of_z, s.ranges.q) (s.requires.2, s.requires.3)
 
 pub overflow_add-reach : goal.overflow_add-reach
-overflow_add-reach c = simp (to_z-of_z, width_fits c) (reach-fits c)
+overflow_add-reach c = simp (to_z-of_z, width_fits c.before) (reach-fits c.before)
 
 pub loop-t-init : goal.loop-t-init
-loop-t-init c = walked_none e8 nearest (nat_abs (to_z w64 (of_z w64 (s c).args.q))) (m c) (x c) (steps c) (found c)
+loop-t-init c = walked_none e8 nearest (nat_abs (to_z w64 (of_z w64 (s c.before).args.q))) (m c.before) (x c.before) (steps c.before) (found c.before)
 
 pub overflow_cast-steps : goal.overflow_cast-steps
 overflow_cast-steps c = simp (to_z-of_z, fz c) (gz c)
@@ -142,19 +148,19 @@ try_place-requires c =
     simp (to_z-of_z, fz a, gz a, s.ranges.q, width_fits v, reach-fits v) (s.requires.0, divisor a, omega (arith, within a, s.requires.1.few), reach-is v, s.requires.2, s.requires.3, b.loop-t.invariant.long ∙ s.requires.4)
 
 pub shape_of-out-then-try_place : goal.shape_of-out-then-try_place
-shape_of-out-then-try_place c = let p = c.before.before.before in let v = v p in
-    ap length (room-is p) ∙ either-long (in_reach e8 nearest (q v) (m v) (z (a p)) (x v)) _ (b p).loop-t.out (length (found v)) (code-long p) (b p).loop-t.invariant.long
+shape_of-out-then-try_place c = let p = c.before.before.before in let v = v p.before in
+    ap length (room-is p.before) ∙ either-long (in_reach e8 nearest (q v) (m v) (z (a p.before)) (x v)) _ (b p.before).loop-t.out (length (found v)) (code-long p.before) (b p.before).loop-t.invariant.long
 
 pub returns-then-try_place : goal.returns-then-try_place
 returns-then-try_place c =
-    let p = c.before.before.before in let l = b p in let w = v p in let e = sym (tested p) ∙ c.if-try_place.true in
-    let h = walked_here e8 nearest (q w) (m w) (x w) (steps w) (found w) (t l) l.loop-t.out (walked l) (within (a p)) (reached p e) e in record { answer = h.0; room = room-is p ∙ h.1 }
+    let p = c.before.before.before in let l = b p.before in let w = v p.before in let e = sym (tested p.before) ∙ c.if-try_place.true in
+    let h = walked_here e8 nearest (q w) (m w) (x w) (steps w) (found w) (t l) l.loop-t.out (walked l) (within (a p.before)) (reached p.before e) e in record { answer = h.0; room = room-is p.before ∙ h.1 }
 
 pub loop-t-preserved : goal.loop-t-preserved
 loop-t-preserved c =
-    let p = c.before.before.before in let l = b p in let w = v p in
-    subst₂ (λ (n : ℕ) (o : List ℕ). Walked e8 nearest n (m w) (x w) (steps w) (found w) (t l + 1) o) (sym (q-is w)) (sym (room-is p))
-    (walked_more e8 nearest (q w) (m w) (x w) (steps w) (found w) (t l) l.loop-t.out (walked l) (within (a p)) (sym (tested p) ∙ c.if-try_place.false) (code-long p))
+    let p = c.before.before.before in let l = b p.before in let w = v p.before in
+    subst₂ (λ (n : ℕ) (o : List ℕ). Walked e8 nearest n (m w) (x w) (steps w) (found w) (t l + 1) o) (sym (q-is w)) (sym (room-is p.before))
+    (walked_more e8 nearest (q w) (m w) (x w) (steps w) (found w) (t l) l.loop-t.out (walked l) (within (a p.before)) (sym (tested p.before) ∙ c.if-try_place.false) (code-long p.before))
 
 pub shape_of-out : goal.shape_of-out
 shape_of-out c = c.before.loop-t.invariant.long

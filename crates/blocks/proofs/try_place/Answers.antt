@@ -25,7 +25,13 @@ use Rattle.blocks.specs.Laws.Sizes.{divisor-positive, divisor-is, reach-under}
 use Rattle.blocks.specs.Laws.Theorems.{past-reach}
 use Rattle.blocks.specs.Trials.{nothing_left, point_at, fits, code_at, in_reach, trial8}
 use Rattle.blocks.proofs.try_place.Goals as goal
-use Rattle.blocks.proofs.try_place.Goals.{After-nothing_left, After-small, After-try_step-found, Start, Then-small}
+use Rattle.blocks.proofs.try_place.Goals.{After-nothing_left, After-try_step-found, Start, Then-small}
+use Rattle.blocks.proofs.try_place.Lts as lts
+use Rattle.blocks.proofs.try_place.Tie as tie
+use Rattle.blocks.proofs.try_place.Reads as reads
+
+abbrev After-small : Type 0
+After-small = lts.After-small tie.the-claims reads.Pre reads.Post tie.handed_clauses
 
 -- an entry is written to the front of o, and f over the rest of it, which is lent for that and comes back
 written_over : {A : Type 0} (f o : List A) (t : A) → length o ≡ length f + 1 → let x = set o 0 t in let k = length x - 1 in put_mid 1 k x (f ++ drop (length f) (take k (drop 1 x))) ≡ t ∷ f
@@ -91,17 +97,17 @@ module _ (s : Start) where
   room_after b e = ap (λ (b : Bool). cond b bytes found) (sym e)
 
 pub overflow_mul-s : goal.overflow_mul-s
-overflow_mul-s c = let s = c.before in simp (to_z-of_z, s.ranges.s, s.ranges.reach) (far64 s)
+overflow_mul-s c = let s = c.before in simp (to_z-of_z, s.ranges.s, s.ranges.reach) (far64 s.before)
 
 pub overflow_cast-s : goal.overflow_cast-s
-overflow_cast-s c = let s = c.before in simp (to_z-of_z, s.ranges.s, s.ranges.reach, far64 s) (far32 s)
+overflow_cast-s c = let s = c.before in simp (to_z-of_z, s.ranges.s, s.ranges.reach, far64 s.before) (far32 s.before)
 
 pub small-requires : goal.small-requires
-small-requires c = let s = c.before in simp (to_z-of_z, s.ranges.s, s.ranges.reach, far64 s, far32 s) (not_negative s)
+small-requires c = let s = c.before in simp (to_z-of_z, s.ranges.s, s.ranges.reach, far64 s.before, far32 s.before) (not_negative s.before)
 
 -- what the test said
-near-is : (c : After-small) → let s = c.before.before in c.small.result ≡ in_reach e8 nearest (q s) (m s) (z s) (x s)
-near-is c = let s = c.before.before in (simp (to_z-of_z, s.ranges.s, s.ranges.reach, far64 s, far32 s) at c.small.ensures) ∙ ap (λ (y : ℤ). small (nat_abs y) (x s)) (far-is s)
+near-is : (c : After-small) → let s = c.before.before in c.small.result ≡ in_reach e8 nearest (q s.before) (m s.before) (z s.before) (x s.before)
+near-is c = let s = c.before.before in (simp (to_z-of_z, s.ranges.s, s.ranges.reach, far64 s.before, far32 s.before) at c.small.ensures) ∙ ap (λ (y : ℤ). small (nat_abs y) (x s.before)) (far-is s.before)
 
 pub overflow_cast-out : goal.overflow_cast-out
 overflow_cast-out c = record { fits = omega (arith, c.before.before.before.requires.2) }
@@ -121,7 +127,7 @@ try_step-found-requires c = let s = c.before.before.before.before in simp (to_z-
 -- what the step made of the block, and of the bytes
 module _ (c : After-nothing_left) where
   abbrev made : After-try_step-found
-  made = c.before.before.before.before.before
+  made = c.before.before.before.before.before.before
 
   abbrev near : Then-small
   near = made.before.before

@@ -16,7 +16,13 @@ use Rattle.layers.specs.E8.{e8, nearest, digits8, leftover8}
 use Rattle.blocks.specs.Laws.Sizes.{doubled-sized, point-sized}
 use Rattle.blocks.specs.Trials.{point_at}
 use Rattle.blocks.proofs.try_step.Goals as goal
-use Rattle.blocks.proofs.try_step.Goals.{After-nearest_point-point, Start}
+use Rattle.blocks.proofs.try_step.Goals.{Start}
+use Rattle.blocks.proofs.try_step.Lts as lts
+use Rattle.blocks.proofs.try_step.Tie as tie
+use Rattle.blocks.proofs.try_step.Reads as reads
+
+abbrev After-nearest_point-point : Type 0
+After-nearest_point-point = lts.After-nearest_point tie.the-claims reads.Pre reads.Post tie.handed_clauses
 
 pub nearest_point-point-requires : goal.nearest_point-point-requires
 nearest_point-point-requires c = let d = c.before in let s = d.before.before in
@@ -45,4 +51,4 @@ same : {A : Type 0} (f : ℕ → List ℤ → A) (p : After-nearest_point-point)
 same f p = ap₂ (λ (z : ℤ) (e : List ℤ). f (nat_abs z) e) (to_z-of_z (s p).ranges.q) (point-is p)
 
 pub returns : goal.returns
-returns c = let d = c.before.before in let p = d.before.before.before in let m = (s p).args.m in let out = (s p).args.out.now in record { answer = ap₂ (λ (e f : List ℤ). record { point = e; leftover = f }) (point-is p) (d.digits-leftover.ensures.0 ∙ same (λ (q : ℕ). leftover8 q m) p); room = d.digits-leftover.ensures.1 ∙ same (λ (q : ℕ) (e : List ℤ). digits8 q m e ++ drop (8 * m) out) p }
+returns c = let d = c.before.before in let p = d.before.before.before in let m = (s p.before).args.m in let out = (s p.before).args.out.now in record { answer = ap₂ (λ (e f : List ℤ). record { point = e; leftover = f }) (point-is p.before) (d.digits-leftover.ensures.0 ∙ same (λ (q : ℕ). leftover8 q m) p.before); room = d.digits-leftover.ensures.1 ∙ same (λ (q : ℕ) (e : List ℤ). digits8 q m e ++ drop (8 * m) out) p.before }

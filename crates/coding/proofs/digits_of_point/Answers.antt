@@ -59,7 +59,7 @@ module _ (c : In-Accepted) where
 -- the numbers that coding is given
 module _ (c : After-layers) where
   abbrev told : In-Accepted
-  told = c.before.before.before.before
+  told = c.before.before.before.before.before
 
   abbrev wide : List ℤ
   wide = c.before.before.before.widen.result
@@ -88,13 +88,13 @@ module _ (c : After-digits-g) where
   out-is = c.digits-g.ensures.1 ∙ same l (λ (q m : ℕ) (e : List ℤ). digits8 q m e ++ drop (8 * m) (out t))
 
 pub widen-requires : goal.widen-requires
-widen-requires c = (taken c.before).input.long
+widen-requires c = (taken c.before.before).input.long
 
 pub base-requires : goal.base-requires
-base-requires c = (taken c.before.before.before).allowed
+base-requires c = (taken c.before.before.before.before).allowed
 
 pub layers-requires : goal.layers-requires
-layers-requires c = (taken c.before.before.before.before).allowed
+layers-requires c = (taken c.before.before.before.before.before).allowed
 
 pub digits-g-requires : goal.digits-g-requires
 digits-g-requires c = let l = c.before in let t = told l in let h = taken t in
@@ -109,7 +109,7 @@ narrow-requires c = let d = c.before.before.before in rw (left_is d) (leftover-n
 
 pub returns-in-Refused : goal.returns-in-Refused
 unfolding coded digit_room
-returns-in-Refused c = let k = c.before.before.before.before in let v = k.before.before.args in let q = nat_abs v.s.q in let m = nat_abs v.s.m in
+returns-in-Refused c = let k = c.before.before.before.before in let v = k.before.args in let q = nat_abs v.s.q in let m = nat_abs v.s.m in
     let r = sym (sym k.check_point.ensures ∙ c.before.before.r-1.given.1) in
     record { answer = c.refused.ensures ∙ ap (λ (w : Verdict). answered w (leftover8 q m v.e.now)) r; room = ap (λ (w : Verdict). written w (digits8 q m v.e.now) v.out.now) r }
 

@@ -41,7 +41,7 @@ module _ (c : In-Accepted) where
 -- the numbers that decoding is given
 module _ (c : After-layers) where
   abbrev told : In-Accepted
-  told = c.before.before.before
+  told = c.before.before.before.before
 
   fits : SFits w64 c.before.base.result
   fits = record { sfits = c.before.base.type_inv }
@@ -53,10 +53,10 @@ found c = let l = c.before in let v = (s (told l)).args in
     ∙ ap₂ (λ (q : ℤ) (m : ℕ). decode8 (nat_abs q) m v.ds.now) l.before.base.ensures l.layers.ensures
 
 pub base-requires : goal.base-requires
-base-requires c = (taken c.before).allowed
+base-requires c = (taken c.before.before).allowed
 
 pub layers-requires : goal.layers-requires
-layers-requires c = (taken c.before.before).allowed
+layers-requires c = (taken c.before.before.before).allowed
 
 pub decode_one-e-requires : goal.decode_one-e-requires
 decode_one-e-requires c =
@@ -72,7 +72,7 @@ narrow-requires c = let d = c.before in let t = told d.before in rw (found d) (d
 
 pub returns-in-Refused : goal.returns-in-Refused
 unfolding decoded
-returns-in-Refused c = let k = c.before.before.before.before in let v = k.before.before.args in
+returns-in-Refused c = let k = c.before.before.before.before in let v = k.before.args in
     c.refused.ensures ∙ ap (λ (w : Verdict). answered w (decode8 (nat_abs v.s.q) (nat_abs v.s.m) v.ds.now)) (sym (sym k.check_digits.ensures ∙ c.before.before.r-1.given.1))
 
 pub returns-in-Accepted : goal.returns-in-Accepted

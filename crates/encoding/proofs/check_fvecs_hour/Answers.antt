@@ -22,7 +22,13 @@ use Rattle.records.specs.Laws.Frames.{record-framed}
 use Rattle.records.specs.Frames.{Framed}
 use Rattle.records.specs.Eight.Hours.{fvecs-count}
 use Rattle.encoding.proofs.check_fvecs_hour.Goals as goal
-use Rattle.encoding.proofs.check_fvecs_hour.Goals.{After-check_coder, After-good_record, In-Accepted, Start, Then-good_record}
+use Rattle.encoding.proofs.check_fvecs_hour.Goals.{After-good_record, In-Accepted, Start, Then-good_record}
+use Rattle.encoding.proofs.check_fvecs_hour.Lts as lts
+use Rattle.encoding.proofs.check_fvecs_hour.Tie as tie
+use Rattle.encoding.proofs.check_fvecs_hour.Reads as reads
+
+abbrev After-check_coder : Type 0
+After-check_coder = lts.After-check_coder tie.the-claims reads.Pre reads.Post
 
 module _ (c : After-check_coder) where
   abbrev s : Start

@@ -47,7 +47,7 @@ module _ (c : After-check_coder) where
 -- the settings and the steps are accepted
 module _ (c : In-Accepted) where
   abbrev k : After-check_coder
-  k = c.before.before
+  k = c.before
 
   taken : CoderTaken (s k).args.s (s k).args.steps.now
   taken = coder-accepted (s k).args.s (s k).args.steps.now (sym k.check_coder.ensures ∙ c.enum_told-1.given.1)
@@ -79,7 +79,7 @@ pub check_room-requires : goal.check_room-requires
 check_room-requires c = (omega (arith, c.layers.ensures, (taken (t c.before)).allowed.m-most), omega (arith, few c.before))
 
 pub returns-in-Refused : goal.returns-in-Refused
-returns-in-Refused c = let a = c.before.before.before in sym (decided a (Refused _) (h a).frame (roomy a) c.before.r-1.given.1 refl refl)
+returns-in-Refused c = let a = c.before.before in sym (decided a (Refused _) (h a).frame (roomy a) c.before.r-1.given.1 refl refl)
 
 pub returns-in-Refused-check_room : goal.returns-in-Refused-check_room
 returns-in-Refused-check_room c = let b = c.before.before.before in let u = b.before.before in let a = k (t u) in

@@ -161,17 +161,17 @@ module _ (c : After-code_block) where
       ∙ ap₂ (λ (w : List ℕ) (j : ℕ). w ++ drop j (found at)) (sym (code_bytes-more (q at) (m at) (steps at) (i at) (X at))) next
 
 pub returns-then-code_block-steps : goal.returns-then-code_block-steps
-returns-then-code_block-steps c = let a = c.before.before.before in let g = at a in
-    let none = fits-none (code8 (q g) (m g)) (steps g) (i g) (block (b a)) (rest (b a)) (subst (λ (t : ℕ). length (steps g) ≤ t) (place_is a) c.if-code_block-steps.true) in
-    record { answer = sym (opened (b a) ∙ none); room = λ e. refused-never e }
+returns-then-code_block-steps c = let a = c.before.before.before in let g = at a.before in
+    let none = fits-none (code8 (q g) (m g)) (steps g) (i g) (block (b a.before)) (rest (b a.before)) (subst (λ (t : ℕ). length (steps g) ≤ t) (place_is a.before) c.if-code_block-steps.true) in
+    record { answer = sym (opened (b a.before) ∙ none); room = λ e. refused-never e }
 
 pub loop-i-preserved : goal.loop-i-preserved
-loop-i-preserved c = let a = c.before.before.before in let g = at a in
-    let h : T a < length (steps g) = subst (λ (t : ℕ). t < length (steps g)) (place_is a) (omega (arith, c.if-code_block-steps.false)) in (
+loop-i-preserved c = let a = c.before.before.before in let g = at a.before in
+    let h : T a.before < length (steps g) = subst (λ (t : ℕ). t < length (steps g)) (place_is a.before) (omega (arith, c.if-code_block-steps.false)) in (
       omega arith,
       search rules,
-      simp (to_z-of_z, (s g).ranges.q) (opened (b a) ∙ fits_next (code8 (q g) (m g)) (steps g) (i g) (block (b a)) (rest (b a)) h ∙ ap (λ (j : ℕ). check_fits (code8 (q g) (m g)) (steps g) j (rest (b a))) (sym (add-one (i g)))),
-      simp (to_z-of_z, (s g).ranges.q) (more-is a h),
+      simp (to_z-of_z, (s g).ranges.q) (opened (b a.before) ∙ fits_next (code8 (q g) (m g)) (steps g) (i g) (block (b a.before)) (rest (b a.before)) h ∙ ap (λ (j : ℕ). check_fits (code8 (q g) (m g)) (steps g) j (rest (b a.before))) (sym (add-one (i g)))),
+      simp (to_z-of_z, (s g).ranges.q) (more-is a.before h),
     )
 
 pub returns : goal.returns

@@ -22,12 +22,27 @@ use Rattle.encoding.specs.Laws.Encoded.{EncodeTaken, asked-framed, encode-taken,
 use Rattle.records.specs.Frames.{Framed}
 use Rattle.records.specs.Eight.Hours.{fvecs-sound, fvecs-count}
 use Rattle.encoding.proofs.encode.Goals as goal
-use Rattle.encoding.proofs.encode.Goals.{After-layers, After-take_readings, After-word_at-n, In-Accepted, In-Accepted-take_readings, Start}
+use Rattle.encoding.proofs.encode.Goals.{After-layers, Start}
+use Rattle.encoding.proofs.encode.Lts as lts
+use Rattle.encoding.proofs.encode.Tie as tie
+use Rattle.encoding.proofs.encode.Reads as reads
+
+abbrev In-Accepted-take_readings : Type 0
+In-Accepted-take_readings = lts.Past-After-enum_told2 tie.the-claims reads.Pre reads.Post tie.handed_clauses
+
+abbrev In-Accepted : Type 0
+In-Accepted = lts.Past-After-enum_told tie.the-claims reads.Pre reads.Post tie.handed_clauses
+
+abbrev After-word_at-n : Type 0
+After-word_at-n = lts.After-word_at tie.the-claims reads.Pre reads.Post tie.handed_clauses
+
+abbrev After-take_readings : Type 0
+After-take_readings = lts.After-take_readings tie.the-claims reads.Pre reads.Post tie.handed_clauses
 
 -- where nothing is refused before the readings are taken
 module _ (c : In-Accepted) where
   abbrev s : Start
-  s = c.before.before.before.before.before
+  s = c.before.before.before.before
 
   abbrev steps : List ℤ
   steps = s.args.steps.now
@@ -50,7 +65,7 @@ module _ (c : In-Accepted) where
 -- where the readings were all taken
 module _ (c : In-Accepted-take_readings) where
   abbrev r : After-take_readings
-  r = c.before.before.before
+  r = c.before.before
 
   abbrev w : After-word_at-n
   w = r.before.before
@@ -126,7 +141,7 @@ put_record-requires c = let l = c.before in let d = told l in let e = taken d in
 )
 
 pub returns-in-Refused : goal.returns-in-Refused
-returns-in-Refused c = let a = c.before.before.before.before in let v = a.before.before.before.args in let h = fvecs_hour v.hour.now in
+returns-in-Refused c = let a = c.before.before.before.before in let v = a.before.before.args in let h = fvecs_hour v.hour.now in
     let e = ap (λ (w : Verdict). first_refusal (w ∷ check_readings 0 h.readings ∷ [])) (sym a.check_fvecs_hour.ensures ∙ c.before.before.r-1.given.1) in
     record { answer = c.refused.ensures ∙ encoded-refused (eight_of v.s) v.s v.steps.now h v.out.now _ e; room = encoded_room-refused (eight_of v.s) v.s v.steps.now h v.out.now _ e }
 

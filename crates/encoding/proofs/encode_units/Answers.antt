@@ -20,7 +20,13 @@ use Rattle.records.specs.Eight.Vectors.{Hour, units_hour, check_readings, units_
 use Rattle.encoding.specs.Laws.Encoded.{EncodeTaken, encode-taken, encoded-is, encoded_room-is, encoded-refused, encoded_room-refused}
 use Rattle.records.specs.Eight.Hours.{units-sound, units-taken}
 use Rattle.encoding.proofs.encode_units.Goals as goal
-use Rattle.encoding.proofs.encode_units.Goals.{After-layers, In-Accepted, Start}
+use Rattle.encoding.proofs.encode_units.Goals.{After-layers, Start}
+use Rattle.encoding.proofs.encode_units.Lts as lts
+use Rattle.encoding.proofs.encode_units.Tie as tie
+use Rattle.encoding.proofs.encode_units.Reads as reads
+
+abbrev In-Accepted : Type 0
+In-Accepted = lts.After-enum_told tie.the-claims reads.Pre reads.Post tie.handed_clauses
 
 -- where nothing is refused before coding
 module _ (c : In-Accepted) where
@@ -54,7 +60,7 @@ module _ (c : In-Accepted) where
 -- the numbers that coding is given
 module _ (c : After-layers) where
   abbrev told : In-Accepted
-  told = c.before.before
+  told = c.before.before.before.before
 
   fits : SFits w64 c.before.base.result
   fits = record { sfits = c.before.base.type_inv }
@@ -67,10 +73,10 @@ module _ (c : After-layers) where
   m-is = c.layers.ensures
 
 pub base-requires : goal.base-requires
-base-requires c = (taken c).taken.allowed
+base-requires c = (taken c.before.before).taken.allowed
 
 pub layers-requires : goal.layers-requires
-layers-requires c = (taken c.before).taken.allowed
+layers-requires c = (taken c.before.before.before).taken.allowed
 
 pub put_record-requires : goal.put_record-requires
 put_record-requires c = let l = c.before in let t = told l in let e = taken t in (
@@ -80,7 +86,7 @@ put_record-requires c = let l = c.before in let t = told l in let e = taken t in
 )
 
 pub returns-in-Refused : goal.returns-in-Refused
-returns-in-Refused c = let a = c.before.before.before.before in let v = a.before.before.args in
+returns-in-Refused c = let a = c.before.before.before.before in let v = a.before.args in
     let e = sym a.check_units_hour.ensures ∙ c.before.before.r-1.given.1 in
     record { answer = c.refused.ensures ∙ encoded-refused (eight_of v.s) v.s v.steps.now (units_hour v.x.now) v.out.now _ e; room = encoded_room-refused (eight_of v.s) v.s v.steps.now (units_hour v.x.now) v.out.now _ e }
 

@@ -10,12 +10,18 @@ use lib.Seq.{take-add}
 use Rattle.layers.specs.Laws.Loops.{write-in}
 use Rattle.records.specs.Laws.Parts.{part-ends}
 use Rattle.encoding.proofs.put_blocks.Goals as goal
-use Rattle.encoding.proofs.put_blocks.Goals.{After-put_block, At-loop-i, In-loop-i, Start}
+use Rattle.encoding.proofs.put_blocks.Goals.{After-put_block, In-loop-i, Start}
+use Rattle.encoding.proofs.put_blocks.Lts as lts
+use Rattle.encoding.proofs.put_blocks.Tie as tie
+use Rattle.encoding.proofs.put_blocks.Reads as reads
+
+abbrev At-loop-i : Type 0
+At-loop-i = lts.At-loop tie.the-claims reads.Pre reads.Post goal.the-invariant-loop-i goal.the-decreases-loop-i
 
 -- block i
 module _ (b : In-loop-i) where
   abbrev l : At-loop-i
-  l = b.before
+  l = b.before.before
 
   abbrev s : Start
   s = l.before.before.before

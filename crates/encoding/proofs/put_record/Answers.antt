@@ -26,7 +26,16 @@ use Rattle.records.specs.Laws.Parts.{cut-long, write-rest}
 use Rattle.records.specs.Laws.Frames.{blocks-whole}
 use Rattle.records.specs.Frames.{Whole}
 use Rattle.encoding.proofs.put_record.Goals as goal
-use Rattle.encoding.proofs.put_record.Goals.{After-block_size-n, After-code_blocks, After-put_blocks, After-put_word, In-Accepted, Start}
+use Rattle.encoding.proofs.put_record.Goals.{After-code_blocks, After-put_blocks, After-put_word, Start}
+use Rattle.encoding.proofs.put_record.Lts as lts
+use Rattle.encoding.proofs.put_record.Tie as tie
+use Rattle.encoding.proofs.put_record.Reads as reads
+
+abbrev After-block_size-n : Type 0
+After-block_size-n = lts.After-block_size tie.the-claims reads.Pre reads.Post tie.handed_clauses
+
+abbrev In-Accepted : Type 0
+In-Accepted = lts.After-enum_told tie.the-claims reads.Pre reads.Post tie.handed_clauses
 
 module _ (s : Start) where
   abbrev q : ℕ
@@ -65,7 +74,7 @@ module _ (s : Start) where
 -- the blocks coded aside
 module _ (c : After-code_blocks) where
   abbrev st : Start
-  st = c.before.before.before
+  st = c.before.before.before.before
 
   abbrev code : List ℕ
   code = c.code_blocks.new.out
@@ -76,12 +85,12 @@ module _ (c : After-code_blocks) where
 pub code_blocks-requires : goal.code_blocks-requires
 code_blocks-requires c = let s = c.before.before in
     simp (to_z-of_z, s.ranges.q) (
-      record { long = (whole s).times; small = s.requires.1.small },
-      used-steps (steps s) s.requires.0.listed,
+      record { long = (whole s.before).times; small = s.requires.1.small },
+      used-steps (steps s.before) s.requires.0.listed,
       s.requires.0.base,
       omega (arith, s.requires.0.few),
       omega (arith, s.requires.0.power),
-      omega (arith, few s),
+      omega (arith, few s.before),
     )
 
 pub block_size-n-requires : goal.block_size-n-requires
@@ -90,7 +99,7 @@ block_size-n-requires c = let s = c.before.before.before.before.before.before in
 -- the size of a block
 module _ (c : After-block_size-n) where
   abbrev told : In-Accepted
-  told = c.before
+  told = c
 
   abbrev blocks : After-code_blocks
   blocks = told.before.before.before
@@ -185,7 +194,7 @@ returns-in-Refused c = let a = c.before.before.before.before.before in let s = s
     record { answer = c.refused.ensures ∙ ap (λ (v : Verdict). valued v (pos (code_length (m s) (k s)))) r; room = ap (λ (v : Verdict). written v (code_record (code8 (q s) (m s)) (steps s) (in_blocks (X s))) (found s)) r }
 
 pub returns-in-Accepted : goal.returns-in-Accepted
-returns-in-Accepted c = let p = c.before.before in let d = g p in let s = t d in
+returns-in-Accepted c = let p = c.before.before in let d = g p.before in let s = t d in
     let f = code_record (code8 (q s) (m s)) (steps s) (in_blocks (X s)) in let fits : SFits w64 (pos (4 + n d * k s)) = record { sfits = omega (arith, small d) } in record { answer = simp (to_z-of_z, fits) (ap₂ (λ (v : Verdict) (j : ℕ). valued v (pos (4 + j))) (sym (accepted d)) (n-is d)); room = all-is p ∙ ap (λ (j : ℕ). (bytes_of j ++ bytes s) ++ drop (4 + j) (found s)) (n-is d)
           ∙ ap₂ (λ (r : List ℕ) (j : ℕ). r ++ drop j (found s)) (sym (record_is s)) (sym (code_record-long (q s) (m s) (steps s) (in_blocks (X s)) ∙ ap (code_length (m s)) (cut-long 8 (k s) (X s))))
           ∙ ap (λ (v : Verdict). written v f (found s)) (sym (accepted d)) }

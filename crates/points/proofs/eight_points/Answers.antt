@@ -13,7 +13,13 @@ use Rattle.points.specs.Lanes.{Taken, LanePoints}
 use Rattle.points.specs.Laws.Folded.{taken-layers, all-foldable, all-points}
 use Rattle.points.specs.Laws.LanePoints.{all-layers, lanes-none, lanes-summable, lanes-more}
 use Rattle.points.proofs.eight_points.Goals as goal
-use Rattle.points.proofs.eight_points.Goals.{After-layer_points-l, After-taken-c, In-loop-i, Start}
+use Rattle.points.proofs.eight_points.Goals.{After-layer_points-l, After-taken-c, Start}
+use Rattle.points.proofs.eight_points.Lts as lts
+use Rattle.points.proofs.eight_points.Tie as tie
+use Rattle.points.proofs.eight_points.Reads as reads
+
+abbrev In-loop-i : Type 0
+In-loop-i = lts.In-loop tie.the-claims reads.Pre reads.Post goal.the-invariant-loop-i goal.the-decreases-loop-i
 
 -- layer j = i - 1, and the layers above it
 module _ (l : In-loop-i) where
@@ -43,7 +49,7 @@ module _ (l : In-loop-i) where
 
 module _ (c : After-taken-c) where
   abbrev l : In-loop-i
-  l = c.before
+  l = c.before.before
 
   layers-are : Taken (m l) (n l) (j l) (f l) c.taken-c.result
   layers-are = c.taken-c.ensures
@@ -59,7 +65,7 @@ pub loop-i-init : goal.loop-i-init
 loop-i-init c = let a = c.before.args in (omega arith, lanes-none (nat_abs (to_z w16 (of_z w16 a.q))) a.m a.n a.body.now)
 
 pub taken-c-requires : goal.taken-c-requires
-taken-c-requires c = let p = (s c).requires in (p.0.few, within c, p.2, p.1.long)
+taken-c-requires c = let p = (s c.before).requires in (p.0.few, within c.before, p.2, p.1.long)
 
 pub layer_points-l-requires : goal.layer_points-l-requires
 layer_points-l-requires c = let g = c.before in let l = l g in let p = (s l).requires in

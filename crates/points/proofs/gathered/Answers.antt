@@ -8,13 +8,19 @@ use Rattle.records.specs.Eight.Codes.{block_size}
 use Rattle.points.specs.Laws.Lanes.{Laid, layer_at, laid_none, laid_more, laid-gathered}
 use Rattle.records.specs.Laws.Parts.{part-ends}
 use Rattle.points.proofs.gathered.Goals as goal
-use Rattle.points.proofs.gathered.Goals.{After-block_size-size, In-loop-b, Start}
+use Rattle.points.proofs.gathered.Goals.{In-loop-b, Start}
 use Rattle.points.proofs.gathered.Invariants.{layer}
+use Rattle.points.proofs.gathered.Lts as lts
+use Rattle.points.proofs.gathered.Tie as tie
+use Rattle.points.proofs.gathered.Reads as reads
+
+abbrev After-block_size-size : Type 0
+After-block_size-size = lts.After-block_size tie.the-claims reads.Pre reads.Post goal.the-invariant-loop-b goal.the-decreases-loop-b
 
 -- block b
 module _ (c : In-loop-b) where
   abbrev k : After-block_size-size
-  k = c.before.before
+  k = c.before.before.before
 
   abbrev s : Start
   s = k.before.before
@@ -65,7 +71,7 @@ pub overflow_add-size : goal.overflow_add-size
 overflow_add-size c = omega (arith, ends c)
 
 pub put_layer-requires : goal.put_layer-requires
-put_layer-requires c = let p = c.before in (ends p, within p, p.before.loop-b.invariant.1.square)
+put_layer-requires c = let p = c.before in (ends p, within p.before, p.before.loop-b.invariant.1.square)
 
 pub overflow_add-b : goal.overflow_add-b
 overflow_add-b c = omega (arith, within c.before.before)

@@ -9,12 +9,21 @@ use Rattle.points.specs.Laws.Folded.{layer_of, layer-of, laid-all}
 use Rattle.points.specs.Laws.Lanes.{Laid, laid_none, laid_more}
 use Rattle.records.specs.Laws.Parts.{part-ends}
 use Rattle.points.proofs.gathered_layers.Goals as goal
-use Rattle.points.proofs.gathered_layers.Goals.{After-block_size-size, In-loop-b, In-loop-i, Start}
+use Rattle.points.proofs.gathered_layers.Goals.{In-loop-i, Start}
+use Rattle.points.proofs.gathered_layers.Lts as lts
+use Rattle.points.proofs.gathered_layers.Tie as tie
+use Rattle.points.proofs.gathered_layers.Reads as reads
+
+abbrev After-block_size-size : Type 0
+After-block_size-size = lts.After-block_size tie.the-claims reads.Pre reads.Post goal.the-invariant-loop-i goal.the-decreases-loop-i goal.the-invariant-loop-b goal.the-decreases-loop-b
+
+abbrev In-loop-b : Type 0
+In-loop-b = lts.In-loop tie.the-claims reads.Pre reads.Post goal.the-invariant-loop-i goal.the-decreases-loop-i goal.the-invariant-loop-b goal.the-decreases-loop-b
 
 -- layer i of block b
 module _ (c : In-loop-i) where
   abbrev o : In-loop-b
-  o = c.before.before
+  o = c.before.before.before
 
   abbrev k : After-block_size-size
   k = o.before.before
@@ -87,7 +96,7 @@ pub overflow_add-size : goal.overflow_add-size
 overflow_add-size c = omega (arith, ends c)
 
 pub put_layer-requires : goal.put_layer-requires
-put_layer-requires c = let p = c.before in (ends p, within p, p.before.loop-i.invariant.1.square)
+put_layer-requires c = let p = c.before in (ends p, within p.before, p.before.loop-i.invariant.1.square)
 
 pub overflow_add-i-in-loop-i : goal.overflow_add-i-in-loop-i
 overflow_add-i-in-loop-i c = omega (arith, within c.before.before)

@@ -18,7 +18,13 @@ use Rattle.points.specs.Lanes.{BlockPoints}
 use Rattle.points.specs.Laws.LanePoints.{codes-from, group-more}
 use Rattle.points.specs.Laws.Points.{rows_long}
 use Rattle.points.proofs.ruled_points.Goals as goal
-use Rattle.points.proofs.ruled_points.Goals.{After-eight_points-e, After-put_columns, After-smaller-n, At-loop-i, Start}
+use Rattle.points.proofs.ruled_points.Goals.{After-eight_points-e, After-put_columns, After-smaller-n, Start}
+use Rattle.points.proofs.ruled_points.Lts as lts
+use Rattle.points.proofs.ruled_points.Tie as tie
+use Rattle.points.proofs.ruled_points.Reads as reads
+
+abbrev At-loop-i : Type 0
+At-loop-i = lts.At-loop tie.the-claims reads.Pre reads.Post goal.the-invariant-loop-i goal.the-decreases-loop-i
 
 -- what stands at the loop's test
 module _ (l : At-loop-i) where
@@ -61,7 +67,7 @@ module _ (l : At-loop-i) where
 -- n blocks from i on
 module _ (c : After-smaller-n) where
   abbrev l : At-loop-i
-  l = c.before.before
+  l = c.before.before.before
 
   abbrev n : ℕ
   n = c.smaller-n.result
@@ -142,5 +148,5 @@ pub loop-i-preserved : goal.loop-i-preserved
 loop-i-preserved c = (within (b (e c)), simp (to_z-of_z, (s (t c)).ranges.q) (more-are c))
 
 pub returns : goal.returns
-returns c = let l = c.before in let n : i l ≡ k l = omega (arith, l.loop-i.invariant.0, c.loop-i-test.false) in
-    rows_are l ∙ ap (λ (k : ℕ). map (point l) (cut (block_size (m l)) k (body l)) ++ drop k (found l)) n
+returns c = let l = c.before in let n : i l.before ≡ k l.before = omega (arith, l.loop-i.invariant.0, c.loop-i-test.false) in
+    rows_are l.before ∙ ap (λ (k : ℕ). map (point l.before) (cut (block_size (m l.before)) k (body l.before)) ++ drop k (found l)) n

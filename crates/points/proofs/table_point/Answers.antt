@@ -13,7 +13,13 @@ use Rattle.records.specs.Eight.Codes.{Digital}
 use Rattle.points.specs.Lanes.{Summable}
 use Rattle.points.specs.Laws.LanePoints.{two-digital, layer-narrow, above-narrow}
 use Rattle.points.proofs.table_point.Goals as goal
-use Rattle.points.proofs.table_point.Goals.{After-table_point-l, In-loop-i, Start}
+use Rattle.points.proofs.table_point.Goals.{After-table_point-l, Start}
+use Rattle.points.proofs.table_point.Lts as lts
+use Rattle.points.proofs.table_point.Tie as tie
+use Rattle.points.proofs.table_point.Reads as reads
+
+abbrev In-loop-i : Type 0
+In-loop-i = lts.In-loop tie.the-claims reads.Pre reads.Post goal.the-invariant-loop-i goal.the-decreases-loop-i
 
 -- layer j = i - 1, and the layers above it
 module _ (l : In-loop-i) where
@@ -58,7 +64,7 @@ module _ (l : In-loop-i) where
 
 module _ (c : After-table_point-l) where
   abbrev l : In-loop-i
-  l = c.before.before
+  l = c.before.before.before
 
   layer-is : c.table_point-l.result ≡ layer_point8 2 (layer l)
   layer-is = c.table_point-l.ensures ∙ ap (λ (k : ℕ). layer_point8 2 (take k (drop (8 * j l) (ds l)))) (eight l)
@@ -67,16 +73,16 @@ pub loop-i-init : goal.loop-i-init
 loop-i-init c = let m = c.before.args.m in let e : 0 ≡ m - m = omega arith in (omega arith, ap (λ (k : ℕ). decode8 2 k (drop (8 * m) c.before.args.ds.now)) e)
 
 pub overflow_mul-at : goal.overflow_mul-at
-overflow_mul-at c = omega (arith, within c, (s c).requires.2.long)
+overflow_mul-at c = omega (arith, within c.before, (s c.before).requires.2.long)
 
 pub overflow_add-end : goal.overflow_add-end
-overflow_add-end c = omega (arith, within c, (s c).requires.2.long)
+overflow_add-end c = omega (arith, within c.before, (s c.before).requires.2.long)
 
 pub slice_bounds-table_point-end : goal.slice_bounds-table_point-end
-slice_bounds-table_point-end c = omega (arith, within c, (s c).requires.2.long)
+slice_bounds-table_point-end c = omega (arith, within c.before, (s c.before).requires.2.long)
 
 pub table_point-l-requires : goal.table_point-l-requires
-table_point-l-requires c = let l = c.before in ((s l).requires.0, subst (λ (k : ℕ). IsLayer 8 2 (take k (drop (8 * j l) (ds l)))) (sym (eight l)) (is-layer l))
+table_point-l-requires c = let l = c.before in ((s l.before).requires.0, subst (λ (k : ℕ). IsLayer 8 2 (take k (drop (8 * j l.before) (ds l.before)))) (sym (eight l.before)) (is-layer l.before))
 
 pub plus_times-e-requires : goal.plus_times-e-requires
 plus_times-e-requires c = let p = c.before.before in subst₂ (Summable (pos 2)) (sym (layer-is p)) (sym (above-is (l p))) (summable (l p))

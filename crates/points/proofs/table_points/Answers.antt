@@ -11,7 +11,13 @@ use Rattle.records.specs.Eight.Codes.{block_size, whole_point}
 use Rattle.records.specs.Laws.Parts.{part-ends}
 use Rattle.points.specs.Laws.Points.{digits-part, rows_more, rows_long}
 use Rattle.points.proofs.table_points.Goals as goal
-use Rattle.points.proofs.table_points.Goals.{After-table_point, At-loop-i, In-loop-i, Start}
+use Rattle.points.proofs.table_points.Goals.{After-table_point, In-loop-i, Start}
+use Rattle.points.proofs.table_points.Lts as lts
+use Rattle.points.proofs.table_points.Tie as tie
+use Rattle.points.proofs.table_points.Reads as reads
+
+abbrev At-loop-i : Type 0
+At-loop-i = lts.At-loop tie.the-claims reads.Pre reads.Post goal.the-invariant-loop-i goal.the-decreases-loop-i
 
 -- what stands at the loop's test
 module _ (l : At-loop-i) where
@@ -42,7 +48,7 @@ module _ (l : At-loop-i) where
 -- block i
 module _ (c : In-loop-i) where
   abbrev l : At-loop-i
-  l = c.before
+  l = c.before.before
 
   abbrev size : ℕ
   size = l.before.block_size-size.result
@@ -116,5 +122,5 @@ pub loop-i-preserved : goal.loop-i-preserved
 loop-i-preserved c = (omega arith, more-are c)
 
 pub returns : goal.returns
-returns c = let l = c.before in let n : i l ≡ (s l).args.k = omega arith in
-    rows_are l ∙ ap (λ (k : ℕ). map (point l) (cut (block_size (m l)) k (body l)) ++ drop k (found l)) n
+returns c = let l = c.before in let n : i l.before ≡ (s l.before).args.k = omega arith in
+    rows_are l.before ∙ ap (λ (k : ℕ). map (point l.before) (cut (block_size (m l.before)) k (body l.before)) ++ drop k (found l)) n

@@ -37,7 +37,7 @@ module _ (c : After-check_coder) where
       ∙ ap₂ (λ (w : Verdict) (k : Bool). first_refusal (w ∷ others k)) (sym c.check_coder.ensures ∙ e) t
 
 pub returns-in-Refused : goal.returns-in-Refused
-returns-in-Refused c = sym (opened c.before.before.before _ _ c.before.r-1.given.1 refl)
+returns-in-Refused c = sym (opened c.before _ _ c.before.r-1.given.1 refl)
 
 pub returns-then-x-eq8 : goal.returns-then-x-eq8
 returns-then-x-eq8 c = let told = c.before.before in let k = told.before.before in

@@ -20,7 +20,7 @@ use Rattle.reports.proofs.report.Goals.{After-layers, In-Accepted, Start}
 -- where what was given is not refused
 module _ (c : In-Accepted) where
   abbrev s : Start
-  s = c.before.before.before
+  s = c.before.before
 
   abbrev x : List ℤ
   x = s.args.x.now
@@ -54,7 +54,7 @@ report_block-requires c = let t = told c in
 
 pub returns-in-Refused : goal.returns-in-Refused
 unfolding report
-returns-in-Refused c = let k = c.before.before.before.before in let v = k.before.args in let X = v.x.now in let l = v.steps.now in
+returns-in-Refused c = let k = c.before.before.before in let v = k.before.args in let X = v.x.now in let l = v.steps.now in
     c.refused_report.ensures ∙ ap (λ (w : Verdict). reported w (block_report (nat_abs v.s.q) (nat_abs v.s.m) l X)) (sym (report-refused v.s l X _ (sym k.check_given.ensures ∙ c.before.before.r-1.given.1)))
 
 pub returns-in-Accepted : goal.returns-in-Accepted

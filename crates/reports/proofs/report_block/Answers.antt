@@ -105,13 +105,13 @@ module _ (c : Else-t-steps) where
   fitting = omega (arith, t-is found, c.if-t-steps.false)
 
 pub slice_bounds-decode_one-end : goal.slice_bounds-decode_one-end
-slice_bounds-decode_one-end c = let k = found c.before in
+slice_bounds-decode_one-end c = let k = found c in
     omega (arith, same_len_mid 0 (size k - 0) fresh (part k) c.before.before.code-2-1.given, size_is k.before.before, (s k).requires.1.few)
 
 -- the digits that are decoded are those of the block
 module _ (c : After-decode_one-arg-1) where
   abbrev here : Else-t-steps
-  here = c.before.before
+  here = c.before
 
   abbrev k : After-code_block-t
   k = found here

@@ -24,11 +24,11 @@ judged : (c : After-check_nearest) → c.check_nearest.result ≡ check_nearest 
 judged c = simp (to_z-of_z, c.before.ranges.s) at c.check_nearest.ensures
 
 -- where nothing is refused
-accepted : (c : In-Accepted) → let b = c.before.before.before in check_nearest b.args.d.now b.args.s ≡ Accepted
-accepted c = sym (judged c.before.before) ∙ c.enum_told-1.given.1
+accepted : (c : In-Accepted) → let b = c.before.before in check_nearest b.args.d.now b.args.s ≡ Accepted
+accepted c = sym (judged c.before) ∙ c.enum_told-1.given.1
 
-asked : (c : In-Accepted) → let b = c.before.before.before in Asked b.args.d.now b.args.s
-asked c = let b = c.before.before.before in accepted-asked b.args.d.now b.args.s (accepted c)
+asked : (c : In-Accepted) → let b = c.before.before in Asked b.args.d.now b.args.s
+asked c = let b = c.before.before in accepted-asked b.args.d.now b.args.s (accepted c)
 
 pub widen-requires : goal.widen-requires
 widen-requires c = (asked c).input.long
@@ -63,7 +63,7 @@ narrow-requires c = let n = c.before in rw (found n) (nearest-sized (b n.before)
 
 pub returns-in-Refused : goal.returns-in-Refused
 unfolding nearest
-returns-in-Refused c = let n = c.before.before.before.before in let s = n.before.args.s in let d = n.before.args.d.now in
+returns-in-Refused c = let n = c.before.before.before in let s = n.before.args.s in let d = n.before.args.d.now in
     let v = sym (judged n) ∙ c.before.before.r-1.given.1 in
     record { answer = c.refused.ensures ∙ ap (λ (w : Verdict). answered w (nearest_point s d)) (sym v); closest = λ h. refused-never (ap (λ (a : PointAnswer). a.verdict) (sym c.refused.ensures) ∙ h) }
 

@@ -24,7 +24,7 @@ After-read_numbers-2 = lts.After-read_numbers2 tie.the-claims reads.Pre reads.Po
 -- the three lines
 module _ (p : After-read_pair) where
   abbrev st : Start
-  st = p.before.before.before.before.before
+  st = p.before.before.before.before
 
   abbrev first : List ℕ
   first = st.args.first.now

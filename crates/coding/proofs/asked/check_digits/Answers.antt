@@ -32,13 +32,13 @@ module _ (c : In-Accepted) where
   allowed = checked-allowed start.args.s accepted
 
 pub layers-requires : goal.layers-requires
-layers-requires c = allowed c.before
+layers-requires c = allowed c.before.before
 
 pub overflow_mul-layers : goal.overflow_mul-layers
-overflow_mul-layers c = record { fits = omega (arith, c.layers.ensures, (allowed c.before.before).m-most) }
+overflow_mul-layers c = record { fits = omega (arith, c.layers.ensures, (allowed c.before.before.before).m-most) }
 
 pub digit_values-requires : goal.digit_values-requires
-digit_values-requires c = allowed c.before.before.before
+digit_values-requires c = allowed c.before.before.before.before
 
 pub returns-in-Refused : goal.returns-in-Refused
 unfolding check_digits
@@ -46,11 +46,11 @@ returns-in-Refused c = let k = c.before.before.before in rw (sym k.check_setting
 
 pub returns-then-ds-layers : goal.returns-then-ds-layers
 unfolding check_digits
-returns-then-ds-layers c = let d = c.before in let b = d.before.before in let v = (start b.before.before).args in
+returns-then-ds-layers c = let d = c.before in let b = d.before.before in let v = (start b.before.before.before).args in
     rw (accepted b.before, eq-eqb (length v.ds.now) (8 * nat_abs v.s.m) (d.before.if-ds-layers.true ∙ ap (λ (n : ℕ). 8 * n) b.layers.ensures))
     (c.check_below.ensures ∙ ap (λ (q : ℕ). check_below q 0 v.ds.now) d.digit_values.ensures ∙ sym (first-last (check_below (nat_abs v.s.q) 0 v.ds.now)))
 
 pub returns-else-ds-layers : goal.returns-else-ds-layers
 unfolding check_digits
-returns-else-ds-layers c = let b = c.before in let v = (start b.before.before).args in
+returns-else-ds-layers c = let b = c.before in let v = (start b.before.before.before).args in
     rw (accepted b.before, ne_eqb (length v.ds.now) (8 * nat_abs v.s.m) (λ e. c.if-ds-layers.false (e ∙ ap (λ (n : ℕ). 8 * n) (sym b.layers.ensures))))

@@ -20,7 +20,7 @@ use Rattle.coding.proofs.asked.check_point.Goals.{After-good_point, After-layers
 -- the settings are accepted
 module _ (c : In-Accepted) where
   abbrev start : Start
-  start = c.before.before.before
+  start = c.before.before
 
   accepted : check_settings start.args.s ≡ Accepted
   accepted = sym c.before.before.check_settings.ensures ∙ c.enum_told-1.given.1
@@ -67,7 +67,7 @@ good_point-requires c = eight c.before
 
 pub returns-in-Refused : goal.returns-in-Refused
 unfolding check_point
-returns-in-Refused c = let k = c.before.before.before in rw (sym k.check_settings.ensures ∙ c.before.r-1.given.1)
+returns-in-Refused c = let k = c.before.before in rw (sym k.check_settings.ensures ∙ c.before.r-1.given.1)
 
 pub returns-then-good_point : goal.returns-then-good_point
 unfolding check_point

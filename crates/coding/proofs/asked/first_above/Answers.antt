@@ -50,7 +50,7 @@ returns-then-ds-i c = let l = c.before.before in sym (opened l.before false (le-
 pub loop-i-preserved : goal.loop-i-preserved
 loop-i-preserved c = let l = c.before.before in let k : suc (first l.before + i l.before) ≡ first l.before + (i l.before + 1) = omega arith in let j : suc (i l.before) ≡ i l.before + 1 = omega arith in (
   omega arith,
-  opened l.before true (lt-ltb (get_or (ds l) (i l) 0) (q l) (omega (arith, c.if-ds-i.false))) ∙ ap₂ (λ (k j : ℕ). check_below (q l) k (drop j (ds l))) k j,
+  opened l.before true (lt-ltb (get_or (ds l.before) (i l.before) 0) (q l.before) (omega (arith, c.if-ds-i.false))) ∙ ap₂ (λ (k j : ℕ). check_below (q l.before) k (drop j (ds l.before))) k j,
 )
 
 pub returns : goal.returns

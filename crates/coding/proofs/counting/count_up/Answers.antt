@@ -42,7 +42,7 @@ pub loop-k-init : goal.loop-k-init
 loop-k-init c = (omega arith, record { long = refl; below = c.requires; same = refl })
 
 pub bounds-ds-k : goal.bounds-ds-k
-bounds-ds-k c = within c
+bounds-ds-k c = within c.before
 
 pub overflow_add-d : goal.overflow_add-d
 overflow_add-d c = record { fits = omega (arith, digit c.before, (s c.before).ranges.q.fits) }

@@ -66,7 +66,7 @@ module _ (b : Start) where
 -- what the calls have made
 module _ (c : After-rounds) where
   abbrev b₁ : Start
-  b₁ = c.before.before.before.before
+  b₁ = c.before.before.before
 
   abbrev f : List ℤ
   f = c.rounds.new.f

@@ -92,7 +92,7 @@ pub overflow_add-result-3 : goal.overflow_add-result-3
 overflow_add-result-3 c = let m = c.before.before.before.before.before in simp (to_z-of_z, (start m.before).ranges.a, fe m.before, faa m.before) (feaa m.before)
 
 pub overflow_mul-result-2 : goal.overflow_mul-result-2
-overflow_mul-result-2 c = let m = c.before.before.before.before.before in simp (to_z-of_z, fb m) (fbb m)
+overflow_mul-result-2 c = let m = c.before.before.before.before.before in simp (to_z-of_z, fb m.before) (fbb m.before)
 
 pub overflow_add-result-4 : goal.overflow_add-result-4
 overflow_add-result-4 c = let m = c.before.before.before.before.before.before.before in simp (to_z-of_z, fb m, fo m, fbb m) (fobb m)

@@ -38,7 +38,7 @@ module _ (s : Start) (from : ℕ) (h : from + 4 ≤ 8) where
 
 module _ (c : After-four-2) where
   abbrev s : Start
-  s = c.before.before.before.before
+  s = c.before.before.before
 
   first_small : c.before.four.result < 2 ^ 32
   first_small = omega (arith, c.before.four.ensures, word_small s 0 (omega arith))
@@ -53,18 +53,18 @@ pub four-requires-2 : goal.four-requires-2
 four-requires-2 c = omega (arith, c.before.before.requires.long)
 
 pub overflow_mul-result : goal.overflow_mul-result
-overflow_mul-result c = omega (arith, second-small c)
+overflow_mul-result c = omega (arith, second-small c.before)
 
 pub overflow_add-result : goal.overflow_add-result
-overflow_add-result c = omega (arith, first_small c, second-small c)
+overflow_add-result c = omega (arith, first_small c.before, second-small c.before)
 
 pub overflow_mul-result-2 : goal.overflow_mul-result-2
 overflow_mul-result-2 c = let d = c.before in
-    let w : d.before.four.result + 16 * d.four-2.result ≤ 2 ^ 37 = omega (arith, first_small d, second-small d) in let p : c.powers.result ≤ 2 ^ 25 = omega (arith, c.powers.ensures) in
+    let w : d.before.four.result + 16 * d.four-2.result ≤ 2 ^ 37 = omega (arith, first_small d.before, second-small d.before) in let p : c.powers.result ≤ 2 ^ 25 = omega (arith, c.powers.ensures) in
     omega (arith, mul-le-mul w p)
 
 pub returns : goal.returns
-returns c = let d = c.before in let o = s d in
+returns c = let d = c.before in let o = s d.before in
     ap₂ (λ (x y : ℕ). x * y / 16777216 % 256) (ap₂ (λ (x y : ℕ). x + 16 * y) d.before.four.ensures d.four-2.ensures) c.powers.ensures
     ∙ gathered-two (half o 0 (omega arith)) (half o 4 (omega arith)) (half-long o 0 (omega arith)) (half-long o 4 (omega arith)) (half-below o 0 (omega arith)) (half-below o 4 (omega arith))
     ∙ entry_of-halves 2 o.args.ds.now o.requires.long

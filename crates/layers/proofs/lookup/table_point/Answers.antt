@@ -21,7 +21,7 @@ After-entry_number-at = lts.After-entry_number tie.the-claims reads.Pre reads.Po
 -- the entry number is below 256, and the row lies within the table
 module _ (c : After-entry_number-at) where
   abbrev s : Start
-  s = c.before.before.before
+  s = c.before.before
 
   abbrev ds : List ℕ
   ds = s.args.ds.now
@@ -38,18 +38,18 @@ pub entry_number-at-requires : goal.entry_number-at-requires
 entry_number-at-requires c = (c.before.requires.1, omega arith)
 
 pub overflow_mul-at : goal.overflow_mul-at
-overflow_mul-at c = omega (arith, small c)
+overflow_mul-at c = omega (arith, small c.before)
 
 pub overflow_add-end : goal.overflow_add-end
-overflow_add-end c = omega (arith, small c)
+overflow_add-end c = omega (arith, small c.before)
 
 pub slice_bounds-row-end : goal.slice_bounds-row-end
-slice_bounds-row-end c = omega (arith, small c, long c)
+slice_bounds-row-end c = omega (arith, small c.before, long c.before)
 
 pub row-requires : goal.row-requires
-row-requires c = simp (length-take, length-drop) (omega (arith, small c.before, long c.before))
+row-requires c = simp (length-take, length-drop) (omega (arith, small c.before.before, long c.before.before))
 
 pub returns : goal.returns
-returns c = let e = c.before.before in let n = e.entry_number-at.result in let t = (s e).args.t.now in
+returns c = let e = c.before.before in let n = e.entry_number-at.result in let t = (s e.before).args.t.now in
     let w : 8 * n + 8 - 8 * n ≡ 8 = omega arith in
-    c.row.ensures ∙ ap (λ (k : ℕ). take k (drop (8 * n) t)) w ∙ ap₂ (λ (k : ℕ) (u : List ℤ). take 8 (drop (8 * k) u)) e.entry_number-at.ensures (s e).requires.0 ∙ table-row (ds e) (s e).requires.1
+    c.row.ensures ∙ ap (λ (k : ℕ). take k (drop (8 * n) t)) w ∙ ap₂ (λ (k : ℕ) (u : List ℤ). take 8 (drop (8 * k) u)) e.entry_number-at.ensures (s e.before).requires.0 ∙ table-row (ds e.before) (s e.before).requires.1

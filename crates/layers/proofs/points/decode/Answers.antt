@@ -32,7 +32,7 @@ module _ (s : Start) where
 -- layer j = i - 1, and the layers above it
 module _ (l : In-loop-i) where
   abbrev s : Start
-  s = l.before.before.before.before
+  s = l.before.before.before
 
   abbrev i : ℕ
   i = l.before.loop-i.i
@@ -73,17 +73,17 @@ loop-i-init c = let m = c.before.args.m in let e : 0 ≡ m - m = omega arith in
     (omega arith, ap (λ (k : ℕ). decode8 (nat_abs (to_z w64 (of_z w64 c.before.args.q))) k (drop (8 * m) c.before.args.ds.now)) e)
 
 pub overflow_mul-at : goal.overflow_mul-at
-overflow_mul-at c = omega (arith, within c, (s c).requires.3.long)
+overflow_mul-at c = omega (arith, within c.before, (s c.before).requires.3.long)
 
 pub overflow_add-end : goal.overflow_add-end
-overflow_add-end c = omega (arith, within c, (s c).requires.3.long)
+overflow_add-end c = omega (arith, within c.before, (s c.before).requires.3.long)
 
 pub slice_bounds-layer_point-end : goal.slice_bounds-layer_point-end
-slice_bounds-layer_point-end c = omega (arith, within c, (s c).requires.3.long)
+slice_bounds-layer_point-end c = omega (arith, within c.before, (s c.before).requires.3.long)
 
 pub layer_point-l-requires : goal.layer_point-l-requires
 layer_point-l-requires c = let l = c.before in
-    simp (to_z-of_z, (s l).ranges.q) ((s l).requires.0, (s l).requires.1, subst (λ (k : ℕ). IsLayer 8 (nat_abs (q (s l))) (take k (drop (8 * j l) (ds (s l))))) (sym (eight l)) (is-layer l))
+    simp (to_z-of_z, (s l.before).ranges.q) ((s l.before).requires.0, (s l.before).requires.1, subst (λ (k : ℕ). IsLayer 8 (nat_abs (q (s l.before))) (take k (drop (8 * j l.before) (ds (s l.before))))) (sym (eight l.before)) (is-layer l.before))
 
 pub plus_times-e-requires : goal.plus_times-e-requires
 plus_times-e-requires c = let p = c.before.before in

@@ -19,19 +19,19 @@ Then-q-eq2 = lts.Then1 tie.the-claims reads.Pre reads.Post
 
 module _ (c : Then-q-eq2) where
   abbrev s : Start
-  s = c.before.before.before
+  s = c.before.before
 
   two : nat_abs s.args.q ≡ 2
   two = ap nat_abs (sym (to_z-of_z s.ranges.q) ∙ ap (to_z w64) c.if-q-eq2.true)
 
 pub table_point-requires : goal.table_point-requires
-table_point-requires c = ((s c).requires.0 (two c), subst (λ (q : ℕ). IsLayer 8 q (s c).args.ds.now) (two c) (s c).requires.2)
+table_point-requires c = ((s c.before).requires.0 (two c.before), subst (λ (q : ℕ). IsLayer 8 q (s c.before).args.ds.now) (two c.before) (s c.before).requires.2)
 
 pub ruled_point-requires : goal.ruled_point-requires
 ruled_point-requires c = let s = c.before.before in simp (to_z-of_z, s.ranges.q) (s.requires.1, s.requires.2)
 
 pub returns-then-q-eq2 : goal.returns-then-q-eq2
-returns-then-q-eq2 c = let p = c.before.before in c.wide_point.ensures ∙ p.table_point.ensures ∙ ap (λ (q : ℕ). layer_point8 q (s p.before).args.ds.now) (sym (two p.before))
+returns-then-q-eq2 c = let p = c.before.before in c.wide_point.ensures ∙ p.table_point.ensures ∙ ap (λ (q : ℕ). layer_point8 q (s p.before.before).args.ds.now) (sym (two p.before.before))
 
 pub returns-else-q-eq2 : goal.returns-else-q-eq2
 returns-else-q-eq2 c = let s = c.before.before.before in simp (to_z-of_z, s.ranges.q) at c.ruled_point.ensures

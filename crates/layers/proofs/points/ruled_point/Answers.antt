@@ -44,7 +44,7 @@ module _ (c : After-widened-c) where
 
 module _ (c : After-point_of-p) where
   abbrev start : Start
-  start = c.before.before.before.before.before
+  start = c.before.before.before.before
 
   point-is : c.point_of-p.result ≡ point_of (map pos (ds start))
   point-is = c.point_of-p.ensures ∙ ap point_of c.before.before.widened-c.ensures
@@ -69,17 +69,17 @@ pub point_of-p-requires : goal.point_of-p-requires
 point_of-p-requires c = sized-more 8 (2 ^ 30) c.before.widened-c.result (digits-small c.before) (2 ^ 32) (omega arith)
 
 pub nearest_point-n-requires : goal.nearest_point-n-requires
-nearest_point-n-requires c = let s = start c.before in simp (to_z-of_z, s.ranges.q) (base-divisor (q s) s.requires.0, point-small c.before)
+nearest_point-n-requires c = let s = start c.before.before in simp (to_z-of_z, s.ranges.q) (base-divisor (q s) s.requires.0, point-small c.before.before)
 
 pub overflow_sub-q : goal.overflow_sub-q
-overflow_sub-q c = let s = start c.before.before.before.before in simp (to_z-of_z, s.ranges.q) (less s)
+overflow_sub-q c = let s = start c.before.before.before.before.before in simp (to_z-of_z, s.ranges.q) (less s)
 
 pub plus_times-requires : goal.plus_times-requires
-plus_times-requires c = let n = c.before.before in let s = start n.before.before in
-    simp (to_z-of_z, s.ranges.q, less s) (point-small n.before.before, nearest-small n, omega (arith, small s))
+plus_times-requires c = let n = c.before.before in let s = start n.before.before.before in
+    simp (to_z-of_z, s.ranges.q, less s) (point-small n.before.before.before, nearest-small n, omega (arith, small s))
 
 pub returns : goal.returns
-returns c = let n = c.before.before.before in let s = start n.before.before in
+returns c = let n = c.before.before.before in let s = start n.before.before.before in
     (simp (to_z-of_z, s.ranges.q, less s) at c.plus_times.ensures)
-    ∙ ap₂ (λ (p m : List ℤ). add_v p (scale_v (pos 0 -ℤ q s) m)) (point-is n.before.before) (nearest-is n)
+    ∙ ap₂ (λ (p m : List ℤ). add_v p (scale_v (pos 0 -ℤ q s) m)) (point-is n.before.before.before) (nearest-is n)
     ∙ layer_point8-is (q s) s.requires.0 (ds s) s.requires.1

@@ -6,7 +6,7 @@ use Rattle.refusals.specs.Steps.{check_steps}
 use Rattle.records.proofs.asked.check_coder.Goals as goal
 
 pub returns-in-Refused : goal.returns-in-Refused
-returns-in-Refused c = let k = c.before.before.before in rw (sym k.check_settings.ensures ∙ c.before.r-1.given.1)
+returns-in-Refused c = let k = c.before.before in rw (sym k.check_settings.ensures ∙ c.before.r-1.given.1)
 
 pub returns-in-Accepted : goal.returns-in-Accepted
 returns-in-Accepted c = let t = c.before in let k = t.before.before in

@@ -26,7 +26,7 @@ After-wide = lts.After-wide tie.the-claims reads.Pre reads.Post
 
 module _ (c : After-wide) where
   abbrev s : Start
-  s = c.before.before.before.before
+  s = c.before.before.before
 
   abbrev b : List ℕ
   b = s.args.b.now
@@ -38,9 +38,9 @@ module _ (c : After-wide) where
       ∙ ap (λ (t : Bool). cond t (check_below s.args.q (suc s.args.first) (drop 1 b)) (Refused (Byte s.args.first))) e
 
 pub returns-then-wide-steps : goal.returns-then-wide-steps
-returns-then-wide-steps c = let w = c.before.before.before in let v = (s w).args in
-    c.check_below.ensures ∙ ap₂ (check_below v.q) (add-one v.first) (rest-whole 1 (b w))
-    ∙ sym (decided w _ (lt-ltb (get_or (b w) 0 0) v.steps (omega (arith, w.wide.ensures.0, c.before.before.if-wide-steps.true))))
+returns-then-wide-steps c = let w = c.before.before.before in let v = (s w.before).args in
+    c.check_below.ensures ∙ ap₂ (check_below v.q) (add-one v.first) (rest-whole 1 (b w.before))
+    ∙ sym (decided w.before _ (lt-ltb (get_or (b w.before) 0 0) v.steps (omega (arith, w.wide.ensures.0, c.before.before.if-wide-steps.true))))
 
 pub returns-else-wide-steps : goal.returns-else-wide-steps
-returns-else-wide-steps c = let w = c.before in sym (decided w _ (le-ltb (get_or (b w) 0 0) (s w).args.steps (omega (arith, w.wide.ensures.0, c.if-wide-steps.false))))
+returns-else-wide-steps c = let w = c.before in sym (decided w.before _ (le-ltb (get_or (b w.before) 0 0) (s w.before).args.steps (omega (arith, w.wide.ensures.0, c.if-wide-steps.false))))

@@ -13,10 +13,13 @@ use Rattle.records.specs.Codes.{check_block, check_blocks}
 use Rattle.records.specs.Laws.Codes.{blocks-opened}
 use Rattle.records.specs.Laws.Parts.{part-ends, cut-whole}
 use Rattle.records.proofs.codes.first_fault.Goals as goal
-use Rattle.records.proofs.codes.first_fault.Goals.{After-check_block, Start}
+use Rattle.records.proofs.codes.first_fault.Goals.{Start}
 use Rattle.records.proofs.codes.first_fault.Lts as lts
 use Rattle.records.proofs.codes.first_fault.Tie as tie
 use Rattle.records.proofs.codes.first_fault.Reads as reads
+
+abbrev After-check_block : Type 0
+After-check_block = lts.After-check_block tie.the-claims reads.Pre reads.Post goal.the-invariant-loop-i goal.the-decreases-loop-i
 
 abbrev In-loop-i : Type 0
 In-loop-i = lts.In-loop tie.the-claims reads.Pre reads.Post goal.the-invariant-loop-i goal.the-decreases-loop-i
@@ -24,7 +27,7 @@ In-loop-i = lts.In-loop tie.the-claims reads.Pre reads.Post goal.the-invariant-l
 -- at block i
 module _ (l : In-loop-i) where
   abbrev s : Start
-  s = l.before.before.before.before
+  s = l.before.before.before
 
   abbrev body : List ℕ
   body = s.args.body.now
@@ -50,7 +53,7 @@ module _ (l : In-loop-i) where
 -- its verdict decides, and where it accepts, the rest
 module _ (c : After-check_block) where
   abbrev l : In-loop-i
-  l = c.before.before.before
+  l = c.before.before
 
   decided : (v : Verdict) → c.check_block.result ≡ v → let a = (s l).args in check_blocks a.steps a.q a.n a.first (cut a.n a.k (body l)) ≡ first_refusal (v ∷ rest l ∷ [])
   decided v e = let a = (s l).args in
@@ -62,19 +65,19 @@ pub loop-i-init : goal.loop-i-init
 loop-i-init c = let a = c.before.args in let e : a.first ≡ a.first + a.n * 0 = omega arith in (omega arith, ap₂ (check_blocks a.steps a.q a.n) e (cut-whole a.n a.body.now a.k))
 
 pub overflow_mul-at : goal.overflow_mul-at
-overflow_mul-at c = record { fits = omega (arith, ends c, (s c).requires.2) }
+overflow_mul-at c = record { fits = omega (arith, ends c.before, (s c.before).requires.2) }
 
 pub overflow_add-end : goal.overflow_add-end
-overflow_add-end c = record { fits = omega (arith, ends c, (s c).requires.2) }
+overflow_add-end c = record { fits = omega (arith, ends c.before, (s c.before).requires.2) }
 
 pub slice_bounds-check_block-end : goal.slice_bounds-check_block-end
-slice_bounds-check_block-end c = omega (arith, ends c)
+slice_bounds-check_block-end c = omega (arith, ends c.before)
 
 pub overflow_add-first : goal.overflow_add-first
-overflow_add-first c = record { fits = omega (arith, ends c.before, (s c.before).requires.2) }
+overflow_add-first c = record { fits = omega (arith, ends c.before.before, (s c.before.before).requires.2) }
 
 pub check_block-requires : goal.check_block-requires
-check_block-requires c = let l = c.before in simp (length-take, length-drop) (omega (arith, ends l, (s l).requires.0), omega (arith, ends l, (s l).requires.2))
+check_block-requires c = let l = c.before in simp (length-take, length-drop) (omega (arith, ends l.before, (s l.before).requires.0), omega (arith, ends l.before, (s l.before).requires.2))
 
 pub returns-in-Refused : goal.returns-in-Refused
 returns-in-Refused c = let k = c.before.before.before in sym (decided k _ c.before.r-1.given.1)

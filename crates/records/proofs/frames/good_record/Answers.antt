@@ -23,7 +23,7 @@ After-word_at-n = lts.After-word_at tie.the-claims reads.Pre reads.Post
 -- the dimension
 module _ (c : After-word_at-n) where
   abbrev s : Start
-  s = c.before.before.before.before
+  s = c.before.before.before
 
   abbrev b : List ℕ
   b = s.args.b.now
@@ -32,8 +32,8 @@ module _ (c : After-word_at-n) where
   there = le-leb 4 (length b) (omega (arith, c.before.if-b-lt4.false))
 
 -- whether it is a number of blocks
-whole : (c : After-whole_blocks) → let v = (s c.before).args in c.whole_blocks.result ≡ whole_blocks v.size v.least v.most (word_at v.b.now 0)
-whole c = let v = (s c.before).args in c.whole_blocks.ensures ∙ ap (whole_blocks v.size v.least v.most) c.before.word_at-n.ensures
+whole : (c : After-whole_blocks) → let v = (s c.before.before).args in c.whole_blocks.result ≡ whole_blocks v.size v.least v.most (word_at v.b.now 0)
+whole c = let v = (s c.before.before).args in c.whole_blocks.ensures ∙ ap (whole_blocks v.size v.least v.most) c.before.word_at-n.ensures
 
 pub returns-then-b-lt4 : goal.returns-then-b-lt4
 unfolding good_record
@@ -41,17 +41,17 @@ returns-then-b-lt4 c = rw (lt-leb 4 (length c.before.before.args.b.now) c.if-b-l
 
 pub overflow_mul-result : goal.overflow_mul-result
 overflow_mul-result c = let w = c.before.before in
-    record { fits = omega (arith, w.word_at-n.type_inv, (s w).requires.1, mul-le-mul (s w).requires.1 w.word_at-n.type_inv) }
+    record { fits = omega (arith, w.word_at-n.type_inv, (s w.before).requires.1, mul-le-mul (s w.before).requires.1 w.word_at-n.type_inv) }
 
 pub overflow_add-result : goal.overflow_add-result
 overflow_add-result c = let w = c.before.before in
-    record { fits = omega (arith, w.word_at-n.type_inv, (s w).requires.1, mul-le-mul (s w).requires.1 w.word_at-n.type_inv) }
+    record { fits = omega (arith, w.word_at-n.type_inv, (s w.before).requires.1, mul-le-mul (s w.before).requires.1 w.word_at-n.type_inv) }
 
 pub returns-then-whole_blocks : goal.returns-then-whole_blocks
 unfolding good_record
-returns-then-whole_blocks c = let w = c.before.before in let v = (s w).args in
-    rw (there w, sym (whole c.before) ∙ c.if-whole_blocks.true) (ap (λ (n : ℕ). leb (4 + v.width * n) (length v.b.now)) w.word_at-n.ensures)
+returns-then-whole_blocks c = let w = c.before.before in let v = (s w.before).args in
+    rw (there w.before, sym (whole c.before) ∙ c.if-whole_blocks.true) (ap (λ (n : ℕ). leb (4 + v.width * n) (length v.b.now)) w.word_at-n.ensures)
 
 pub returns-else-whole_blocks : goal.returns-else-whole_blocks
 unfolding good_record
-returns-else-whole_blocks c = rw (there c.before.before, sym (whole c.before) ∙ c.if-whole_blocks.false)
+returns-else-whole_blocks c = rw (there c.before.before.before, sym (whole c.before) ∙ c.if-whole_blocks.false)

@@ -82,16 +82,16 @@ pub overflow_add-result : goal.overflow_add-result
 overflow_add-result c = let m = c.before in record { fits = omega (arith, k≤ m, (start m).requires.0.keys) }
 
 pub overflow_add-result-2 : goal.overflow_add-result-2
-overflow_add-result-2 c = let m = c.before.before.before in simp (to_z-of_z, fs m, (start m).ranges.f) (fsf m)
+overflow_add-result-2 c = let m = c.before.before.before in simp (to_z-of_z, fs m.before, (start m.before).ranges.f) (fsf m.before)
 
 pub overflow_mul-result : goal.overflow_mul-result
-overflow_mul-result c = let m = c.before.before.before in simp (to_z-of_z, (start m).ranges.a) (faa m)
+overflow_mul-result c = let m = c.before.before.before in simp (to_z-of_z, (start m.before).ranges.a) (faa m.before)
 
 pub overflow_add-result-3 : goal.overflow_add-result-3
-overflow_add-result-3 c = let m = c.before.before.before.before.before in simp (to_z-of_z, (start m).ranges.a, fe m, faa m) (feaa m)
+overflow_add-result-3 c = let m = c.before.before.before.before.before in simp (to_z-of_z, (start m.before).ranges.a, fe m.before, faa m.before) (feaa m.before)
 
 pub overflow_mul-result-2 : goal.overflow_mul-result-2
-overflow_mul-result-2 c = let m = c.before.before.before.before.before in simp (to_z-of_z, fb m) (fbb m)
+overflow_mul-result-2 c = let m = c.before.before.before.before.before in simp (to_z-of_z, fb m.before) (fbb m.before)
 
 pub overflow_add-result-4 : goal.overflow_add-result-4
 overflow_add-result-4 c = let m = c.before.before.before.before.before.before.before in simp (to_z-of_z, fb m, fo m, fbb m) (fobb m)

@@ -19,7 +19,16 @@ use Rattle.rounding.specs.Laws.Choice.{mended-small, lead-small}
 use Rattle.rounding.specs.Laws.Reciprocals.{twice-pos}
 use Rattle.rounding.specs.Pass.{Small, mended, lead, even_mend, odd_mend, choose, chosen}
 use Rattle.rounding.proofs.point.chosen.Goals as goal
-use Rattle.rounding.proofs.point.chosen.Goals.{After-behind-parity, After-lead-v, After-mended-x, After-mended-y, Start}
+use Rattle.rounding.proofs.point.chosen.Goals.{After-behind-parity, After-lead-v, Start}
+use Rattle.rounding.proofs.point.chosen.Lts as lts
+use Rattle.rounding.proofs.point.chosen.Tie as tie
+use Rattle.rounding.proofs.point.chosen.Reads as reads
+
+abbrev After-mended-y : Type 0
+After-mended-y = lts.After-mended2 tie.the-claims reads.Pre reads.Post
+
+abbrev After-mended-x : Type 0
+After-mended-x = lts.After-mended tie.the-claims reads.Pre reads.Post
 
 module _ (b : Start) where
   abbrev s : ℤ
@@ -68,25 +77,25 @@ module _ (c : After-mended-x) where
   x-is = (simp (to_z-of_z, b₁.ranges.s) at c.mended-x.ensures) ∙ ap (mended (s b₁) (scan b₁).most) (simp (to_z-of_z, fs b₁) at c.before.odd.ensures)
 
 pub overflow_cast-s : goal.overflow_cast-s
-overflow_cast-s c = let b = b₁ c in simp (to_z-of_z, b.ranges.s) (yes_non_neg (<ℤ-weak (pos 0) (s b) (twice-pos (s b) b.requires.0.least).1), record { fits = omega (arith, b.requires.0.most) })
+overflow_cast-s c = let b = b₁ c.before in simp (to_z-of_z, b.ranges.s) (yes_non_neg (<ℤ-weak (pos 0) (s b) (twice-pos (s b) b.requires.0.least).1), record { fits = omega (arith, b.requires.0.most) })
 
 pub overflow_mul-s : goal.overflow_mul-s
-overflow_mul-s c = let b = b₁ c in simp (to_z-of_z, b.ranges.s) (record { fits = omega (arith, b.requires.0.most) })
+overflow_mul-s c = let b = b₁ c.before in simp (to_z-of_z, b.ranges.s) (record { fits = omega (arith, b.requires.0.most) })
 
 pub overflow_add-s : goal.overflow_add-s
-overflow_add-s c = let b = b₁ c in simp (to_z-of_z, b.ranges.s) (record { fits = omega (arith, b.requires.0.most) })
+overflow_add-s c = let b = b₁ c.before in simp (to_z-of_z, b.ranges.s) (record { fits = omega (arith, b.requires.0.most) })
 
 pub overflow_sub-s : goal.overflow_sub-s
-overflow_sub-s c = let b = b₁ c.before in simp (to_z-of_z, b.ranges.s) b.requires.1.least
+overflow_sub-s c = let b = b₁ c.before.before in simp (to_z-of_z, b.ranges.s) b.requires.1.least
 
 pub overflow_cast-c : goal.overflow_cast-c
-overflow_cast-c c = fk (b₁ c.before.before)
+overflow_cast-c c = fk (b₁ c.before.before.before)
 
 pub overflow_add-c : goal.overflow_add-c
-overflow_add-c c = let b = b₁ c.before.before.before.before in simp (to_z-of_z, fs b, fk b) (fsk b)
+overflow_add-c c = let b = b₁ c.before.before.before.before.before in simp (to_z-of_z, fs b, fk b) (fsk b)
 
 pub mended-y-requires : goal.mended-y-requires
-mended-y-requires c = let b = b₁ c.before.before.before.before.before in simp (to_z-of_z, b.ranges.s) (b.requires.0, omega (arith, b.requires.0.most))
+mended-y-requires c = let b = b₁ c.before.before.before.before.before.before in simp (to_z-of_z, b.ranges.s) (b.requires.0, omega (arith, b.requires.0.most))
 
 -- the odd half's
 module _ (c : After-mended-y) where
@@ -100,8 +109,8 @@ module _ (c : After-mended-y) where
   y-is = (simp (to_z-of_z, b₂.ranges.s) at c.mended-y.ensures) ∙ ap (mended (s b₂) (16 * nat_abs (s b₂) + 15 - (scan b₂).least)) (simp (to_z-of_z, fs b₂, fk b₂, fsk b₂) at c.before.odd-2.ensures)
 
 pub lead-v-requires : goal.lead-v-requires
-lead-v-requires c = let m = c.before.before in let b = b₂ m in
-    simp (to_z-of_z, b.ranges.way, fe b, fo b) (b.requires.1.light.even, b.requires.1.light.odd, subst Small (sym (x-is (even m))) (x-small b), subst Small (sym (y-is m)) (y-small b), b.requires.2)
+lead-v-requires c = let m = c.before.before in let b = b₂ m.before in
+    simp (to_z-of_z, b.ranges.way, fe b, fo b) (b.requires.1.light.even, b.requires.1.light.odd, subst Small (sym (x-is (even m.before))) (x-small b), subst Small (sym (y-is m.before)) (y-small b), b.requires.2)
 
 -- the comparison
 module _ (c : After-lead-v) where

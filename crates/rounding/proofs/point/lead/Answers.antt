@@ -59,13 +59,13 @@ module _ (c : Start) where
   fl = fits-abs _ (omega (arith, lead-small a b x y c.requires.0 c.requires.1 c.requires.2 c.requires.3 way))
 
 pub overflow_add-z : goal.overflow_add-z
-overflow_add-z c = let s = c.before.before in simp (to_z-of_z, s.ranges.a, fx s) (fax s)
+overflow_add-z c = let s = c.before.before in simp (to_z-of_z, s.ranges.a, fx s.before) (fax s.before)
 
 pub overflow_add-z-2 : goal.overflow_add-z-2
-overflow_add-z-2 c = let s = c.before.before.before.before in simp (to_z-of_z, s.ranges.b, fy s) (fby s)
+overflow_add-z-2 c = let s = c.before.before.before.before in simp (to_z-of_z, s.ranges.b, fy s.before) (fby s.before)
 
 pub overflow_sub-z : goal.overflow_sub-z
-overflow_sub-z c = let s = c.before.before.before.before in simp (to_z-of_z, s.ranges.a, fx s, fax s, s.ranges.b, fy s, fby s) (fz s)
+overflow_sub-z c = let s = c.before.before.before.before in simp (to_z-of_z, s.ranges.a, fx s.before, fax s.before, s.ranges.b, fy s.before, fby s.before) (fz s.before)
 
 -- the test of the first steps
 module _ (c : After-first-2) where

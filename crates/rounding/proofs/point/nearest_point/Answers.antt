@@ -20,7 +20,16 @@ use Rattle.rounding.specs.Laws.Scans.{scan-ranged}
 use Rattle.rounding.specs.Pass.{Ranged, scanned, chosen, spread_by}
 use Rattle.rounding.specs.Rounding.{round, left, sign, reciprocal}
 use Rattle.rounding.proofs.point.nearest_point.Goals as goal
-use Rattle.rounding.proofs.point.nearest_point.Goals.{After-chosen-c, After-rounds, After-scanned, After-sign, After-spread-e, Start}
+use Rattle.rounding.proofs.point.nearest_point.Goals.{After-chosen-c, After-scanned, After-sign, Start}
+use Rattle.rounding.proofs.point.nearest_point.Lts as lts
+use Rattle.rounding.proofs.point.nearest_point.Tie as tie
+use Rattle.rounding.proofs.point.nearest_point.Reads as reads
+
+abbrev After-spread-e : Type 0
+After-spread-e = lts.After-spread tie.the-claims reads.Pre reads.Post
+
+abbrev After-rounds : Type 0
+After-rounds = lts.After-rounds tie.the-claims reads.Pre reads.Post
 
 -- the roundings F of d, which leave A, and the choice that they lead to
 module _ (b : Start) where
@@ -123,8 +132,8 @@ module _ (c : After-chosen-c) where
   small = subst (λ (h : Choice). (nat_abs h.parity ≤ 1) × (h.mend.place < 8) × (nat_abs h.mend.step ≤ 2)) (sym C-is) (C-small b₄)
 
 pub spread-e-requires : goal.spread-e-requires
-spread-e-requires c = let n = c.before.before.before in let r = made (seen (way n)) in let g : SFits w64 n.chosen-c.result.parity = fits-abs _ (omega (arith, (small n).0)) in
-    simp (to_z-of_z, g) ((small n).0, f-sized r, a-sized r)
+spread-e-requires c = let n = c.before.before.before in let r = made (seen (way n.before)) in let g : SFits w64 n.chosen-c.result.parity = fits-abs _ (omega (arith, (small n.before).0)) in
+    simp (to_z-of_z, g) ((small n.before).0, f-sized r, a-sized r)
 
 module _ (c : After-spread-e) where
   abbrev picked : After-chosen-c

@@ -41,13 +41,13 @@ pub chosen-h-requires : goal.chosen-h-requires
 chosen-h-requires c = simp (to_z-of_z, c.ranges.q, c.ranges.way) (c.requires.0, c.requires.1, c.requires.2)
 
 pub overflow_cast-result : goal.overflow_cast-result
-overflow_cast-result c = let k = c.before.before in simp (to_z-of_z, fp k) (yes_non_neg (coded k).parity.0, record { fits = omega (arith, (coded k).parity.1) })
+overflow_cast-result c = let k = c.before.before in simp (to_z-of_z, fp k.before) (yes_non_neg (coded k.before).parity.0, record { fits = omega (arith, (coded k.before).parity.1) })
 
 pub overflow_mul-result : goal.overflow_mul-result
-overflow_mul-result c = let k = c.before.before.before in record { fits = omega (arith, (coded k).place) }
+overflow_mul-result c = let k = c.before.before.before in record { fits = omega (arith, (coded k.before).place) }
 
 pub overflow_add-result : goal.overflow_add-result
-overflow_add-result c = let k = c.before.before.before in simp (to_z-of_z, fp k) (record { fits = omega (arith, (coded k).place, (coded k).parity.1) })
+overflow_add-result c = let k = c.before.before.before in simp (to_z-of_z, fp k.before) (record { fits = omega (arith, (coded k.before).place, (coded k.before).parity.1) })
 
 pub overflow_add-result-2 : goal.overflow_add-result-2
 overflow_add-result-2 c = let k = c.before.before.before.before.before in simp (to_z-of_z, ft k) (ft2 k)

@@ -28,7 +28,16 @@ use Rattle.slices.specs.Laws.Lanes.{grid-same, base-few, rounds-sized, rests-siz
 use Rattle.slices.specs.Laws.Powers.{run_size, row_count, size_few, rows_few, slice-few, run_room, digit_room, low-within}
 use Rattle.slices.specs.Slices.{rounds_of, rests_of, high_digits}
 use Rattle.slices.proofs.choices.fill_choices.Goals as goal
-use Rattle.slices.proofs.choices.fill_choices.Goals.{After-fill_lows, After-high_digits, After-put_run, After-round_digits, After-scanned-high, At-loop-g, In-loop-g, Start}
+use Rattle.slices.proofs.choices.fill_choices.Goals.{After-high_digits, After-put_run, After-round_digits, After-scanned-high, In-loop-g, Start}
+use Rattle.slices.proofs.choices.fill_choices.Lts as lts
+use Rattle.slices.proofs.choices.fill_choices.Tie as tie
+use Rattle.slices.proofs.choices.fill_choices.Reads as reads
+
+abbrev After-fill_lows : Type 0
+After-fill_lows = lts.After-fill_lows tie.the-claims reads.Pre reads.Post goal.the-invariant-loop-g goal.the-decreases-loop-g
+
+abbrev At-loop-g : Type 0
+At-loop-g = lts.At-loop tie.the-claims reads.Pre reads.Post goal.the-invariant-loop-g goal.the-decreases-loop-g
 
 module _ (s : Start) where
   abbrev q : ℤ
@@ -72,7 +81,7 @@ module _ (c : After-fill_lows) where
 -- turn g, its digits, their roundings F and what these leave, R
 module _ (c : In-loop-g) where
   abbrev l : At-loop-g
-  l = c.before
+  l = c.before.before
 
   abbrev k : After-fill_lows
   k = l.before
@@ -202,7 +211,7 @@ fill_lows-requires c = let b = c.before.before in
     simp (to_z-of_z, b.ranges.q) (b.requires.0, b.requires.1, b.requires.2, rows_few (q b) b.requires.1, grid-same 7 256 (pos 0), b.requires.4)
 
 pub loop-g-init : goal.loop-g-init
-loop-g-init c = let s = b c in simp (to_z-of_z, s.ranges.q) (omega arith, sym (digits-zero (N s) 4), refl, refl, chosen_none (q s) (d s) s.args.choices.now s.args.highs.now s.requires.3 s.requires.5)
+loop-g-init c = let s = b c.before in simp (to_z-of_z, s.ranges.q) (omega arith, sym (digits-zero (N s) 4), refl, refl, chosen_none (q s) (d s) s.args.choices.now s.args.highs.now s.requires.3 s.requires.5)
 
 pub high_digits-requires : goal.high_digits-requires
 high_digits-requires c = (digits c.before).long

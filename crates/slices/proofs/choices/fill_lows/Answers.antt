@@ -25,7 +25,13 @@ use Rattle.coding.specs.Laws.Counting.{digits-zero, counted_next}
 use Rattle.slices.specs.Laws.Lanes.{base-few, rounds-sized, rests-sized, digits-part, part-any, low-layer, first_three, lows-none, lows-more}
 use Rattle.slices.specs.Slices.{rounds_of, rests_of, low_digits}
 use Rattle.slices.proofs.choices.fill_lows.Goals as goal
-use Rattle.slices.proofs.choices.fill_lows.Goals.{After-lane_of, After-low_digits, After-put_lane, After-round_digits, After-scanned-c, After-sign, At-loop-t, In-loop-t, Start}
+use Rattle.slices.proofs.choices.fill_lows.Goals.{After-lane_of, After-low_digits, After-put_lane, After-scanned-c, After-sign, At-loop-t, In-loop-t, Start}
+use Rattle.slices.proofs.choices.fill_lows.Lts as lts
+use Rattle.slices.proofs.choices.fill_lows.Tie as tie
+use Rattle.slices.proofs.choices.fill_lows.Reads as reads
+
+abbrev After-round_digits : Type 0
+After-round_digits = lts.After-round_digits tie.the-claims reads.Pre reads.Post goal.the-invariant-loop-t goal.the-decreases-loop-t
 
 -- turn t, its digits, their roundings F and what these leave, R
 module _ (c : In-loop-t) where

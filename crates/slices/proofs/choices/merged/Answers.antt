@@ -68,10 +68,10 @@ pub overflow_add-result : goal.overflow_add-result
 overflow_add-result c = record { fits = omega (arith, (s c).requires.0.keys, (s c).requires.1.keys) }
 
 pub overflow_add-result-2 : goal.overflow_add-result-2
-overflow_add-result-2 c = let j = c.before.before in simp (to_z-of_z, fxs j, fys j) (fs j)
+overflow_add-result-2 c = let j = c.before.before in simp (to_z-of_z, fxs j.before, fys j.before) (fs j.before)
 
 pub overflow_add-result-3 : goal.overflow_add-result-3
-overflow_add-result-3 c = let j = c.before.before.before.before in simp (to_z-of_z, fxe j, fye j) (fe j)
+overflow_add-result-3 c = let j = c.before.before.before.before in simp (to_z-of_z, fxe j.before, fye j.before) (fe j.before)
 
 pub overflow_add-result-4 : goal.overflow_add-result-4
 overflow_add-result-4 c = let j = c.before.before.before.before.before.before in simp (to_z-of_z, fxo j, fyo j) (fo j)

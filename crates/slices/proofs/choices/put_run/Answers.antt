@@ -65,7 +65,7 @@ module _ (c : After-choose_run) where
       (run-put q b.args.from (n b) lanes high (i b) (found b) run b.requires.5 run_is)
 
 pub shape_of-choices : goal.shape_of-choices
-shape_of-choices c = (put_is c.before.before).long
+shape_of-choices c = (put_is c.before.before.before).long
 
 pub returns : goal.returns
-returns c = put_is c.before.before
+returns c = put_is c.before.before.before

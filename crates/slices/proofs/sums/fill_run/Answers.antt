@@ -13,12 +13,17 @@ use Rattle.integers.specs.Laws.Sizes.{fits-mag, abs-add}
 use Rattle.slices.specs.Sums.{run_at}
 use Rattle.slices.specs.Laws.Sums.{range-entry}
 use Rattle.slices.proofs.sums.fill_run.Goals as goal
-use Rattle.slices.proofs.sums.fill_run.Goals.{In-loop-t, Start}
+use Rattle.slices.proofs.sums.fill_run.Goals.{In-loop-t}
+use Rattle.slices.proofs.sums.fill_run.Lts as lts
+use Rattle.slices.proofs.sums.fill_run.Reads as reads
+
+abbrev Start : Type 0
+Start = lts.Start reads.Pre reads.Post goal.the-invariant-loop-t goal.the-decreases-loop-t
 
 -- the entry t: its choice, and the two sums
 module _ (l : In-loop-t) where
   abbrev b : Start
-  b = l.before.before
+  b = l.before.before.before
 
   abbrev t : ℕ
   t = l.before.loop-t.t

@@ -40,7 +40,7 @@ module _ (l : In-loop-j) where
 -- its two sums
 module _ (c : After-odd_sum) where
   abbrev l : In-loop-j
-  l = c.before.before.before.before
+  l = c.before.before.before
 
   abbrev s : ℤ
   s = (b l).args.s
@@ -95,13 +95,13 @@ pub even_sum-requires : goal.even_sum-requires
 even_sum-requires c = let l = c.before.before in let x = (b l).requires.0 in (omega (arith, x.long, (row l).long), omega (arith, x.long), x.small, (row l).small)
 
 pub overflow_mul-sums : goal.overflow_mul-sums
-overflow_mul-sums c = omega (arith, j< c.before.before.before)
+overflow_mul-sums c = omega (arith, j< c.before.before)
 
 pub offset_bounds-sums-j : goal.offset_bounds-sums-j
-offset_bounds-sums-j c = omega (arith, j< c.before.before.before)
+offset_bounds-sums-j c = omega (arith, j< c.before.before)
 
 pub bounds-sums-j : goal.bounds-sums-j
-bounds-sums-j c = omega (arith, j< c.before.before.before)
+bounds-sums-j c = omega (arith, j< c.before.before)
 
 pub odd_sum-requires : goal.odd_sum-requires
 odd_sum-requires c = let l = c.before.before.before in let x = (b l).requires.0 in
