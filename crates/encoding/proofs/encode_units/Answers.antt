@@ -60,7 +60,7 @@ module _ (c : In-Accepted) where
 -- the numbers that coding is given
 module _ (c : After-layers) where
   abbrev told : In-Accepted
-  told = c.before.before.before.before
+  told = c.before.before
 
   fits : SFits w64 c.before.base.result
   fits = record { sfits = c.before.base.type_inv }
@@ -73,10 +73,10 @@ module _ (c : After-layers) where
   m-is = c.layers.ensures
 
 pub base-requires : goal.base-requires
-base-requires c = (taken c.before.before).taken.allowed
+base-requires c = (taken c).taken.allowed
 
 pub layers-requires : goal.layers-requires
-layers-requires c = (taken c.before.before.before).taken.allowed
+layers-requires c = (taken c.before).taken.allowed
 
 pub put_record-requires : goal.put_record-requires
 put_record-requires c = let l = c.before in let t = told l in let e = taken t in (

@@ -99,7 +99,7 @@ block_size-n-requires c = let s = c.before.before.before.before.before.before in
 -- the size of a block
 module _ (c : After-block_size-n) where
   abbrev told : In-Accepted
-  told = c
+  told = c.before
 
   abbrev blocks : After-code_blocks
   blocks = told.before.before.before

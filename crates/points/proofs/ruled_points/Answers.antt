@@ -149,4 +149,4 @@ loop-i-preserved c = (within (b (e c)), simp (to_z-of_z, (s (t c)).ranges.q) (mo
 
 pub returns : goal.returns
 returns c = let l = c.before in let n : i l.before ≡ k l.before = omega (arith, l.loop-i.invariant.0, c.loop-i-test.false) in
-    rows_are l.before ∙ ap (λ (k : ℕ). map (point l.before) (cut (block_size (m l.before)) k (body l.before)) ++ drop k (found l)) n
+    rows_are l.before ∙ ap (λ (k : ℕ). map (point l.before) (cut (block_size (m l.before)) k (body l.before)) ++ drop k (found l.before)) n

@@ -123,4 +123,4 @@ loop-i-preserved c = (omega arith, more-are c)
 
 pub returns : goal.returns
 returns c = let l = c.before in let n : i l.before ≡ (s l.before).args.k = omega arith in
-    rows_are l.before ∙ ap (λ (k : ℕ). map (point l.before) (cut (block_size (m l.before)) k (body l.before)) ++ drop k (found l)) n
+    rows_are l.before ∙ ap (λ (k : ℕ). map (point l.before) (cut (block_size (m l.before)) k (body l.before)) ++ drop k (found l.before)) n
