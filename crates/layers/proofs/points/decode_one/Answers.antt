@@ -9,15 +9,12 @@ use Rattle.layers.specs.E8.{decode8}
 use Rattle.layers.specs.Laws.Bases.{base-is}
 use Rattle.layers.proofs.points.decode_one.Goals as goal
 
-slice-aggregate-decode-2 : tie.Need-slice-aggregate-decode-2
-slice-aggregate-decode-2 c = search rules
-
 pub decode-requires-else-q-eq2 : goal.decode-requires-else-q-eq2
-decode-requires-else-q-eq2 c = let s = c.before.before.before in
-    simp (to_z-of_z, s.ranges.q) ((λ h. absurd (c.before.if-q-eq2.false (ap (of_z w64) (sym (base-is s.args.q s.requires.0) ∙ ap pos h)))), s.requires.0, s.requires.1, s.requires.2)
+decode-requires-else-q-eq2 c = let r = c.requires in
+    simp (to_z-of_z, c.ranges.q) ((λ h. absurd (c.if-q-eq2.false (ap (of_z w64) (sym (base-is c.args.q r.0) ∙ ap pos h)))), r.0, r.1, r.2)
 
 pub returns-then-q-eq2 : goal.returns-then-q-eq2
-returns-then-q-eq2 c = let s = c.before.before.before.before.before in c.decode.ensures ∙ ap (λ (q : ℤ). decode8 (nat_abs q) s.args.m s.args.ds.now) (to_z-of_z s.ranges.q)
+returns-then-q-eq2 c = c.decode.ensures ∙ ap (λ (q : ℤ). decode8 (nat_abs q) c.args.m c.args.ds.now) (to_z-of_z c.ranges.q)
 
 pub returns-else-q-eq2 : goal.returns-else-q-eq2
-returns-else-q-eq2 c = let s = c.before.before.before.before in c.decode-else-q-eq2.ensures ∙ ap (λ (q : ℤ). decode8 (nat_abs q) s.args.m s.args.ds.now) (to_z-of_z s.ranges.q)
+returns-else-q-eq2 c = c.decode-else-q-eq2.ensures ∙ ap (λ (q : ℤ). decode8 (nat_abs q) c.args.m c.args.ds.now) (to_z-of_z c.ranges.q)
