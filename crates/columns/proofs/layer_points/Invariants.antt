@@ -16,13 +16,13 @@ use Rattle.columns.specs.Laws.Columns.{Pointed, Pointing, pointed-none, pointing
 use Rattle.columns.proofs.layer_points.Given as goal
 
 abbrev pub invariant-loop-j : goal.invariant-loop-j
-invariant-loop-j l = Pointing (nat_abs l.l.q) l.c l.t l.r l.j l.l
+invariant-loop-j l = Pointing (nat_abs l.q) l.c l.t l.r l.j l.l
 
 abbrev pub decreases-loop-j : goal.decreases-loop-j
 decreases-loop-j l = 8 - l.j
 
 abbrev pub invariant-loop-t : goal.invariant-loop-t
-invariant-loop-t l = Pointed (nat_abs l.l.q) l.c l.t l.l
+invariant-loop-t l = Pointed (nat_abs l.q) l.c l.t l.l
 
 abbrev pub decreases-loop-t : goal.decreases-loop-t
 decreases-loop-t l = 8 - l.t
