@@ -1,6 +1,6 @@
 -- `remainder` is the floor's remainder: what the guess leaves is below 2 m, and m less where it is not below m.
 use mathlib.Core.Path.{◌≡◌, sym, ◌∙◌, ap, subst₂}
-use Prim.Native.Nat.{ℕ, ◌*◌, ◌<◌, ◌≤◌}
+use Prim.Native.Nat.{ℕ, ◌*◌, ◌≤◌}
 use native.Mathlib.Omega.{arith}
 use lib.IntN.{ℤ, pos, nat_abs, ◌-ℤ◌, ◌*ℤ◌}
 use lib.Signed.{◌≤ℤ◌, ◌<ℤ◌, shr_z, mag_shr, pos-nat_abs, yes_non_neg}

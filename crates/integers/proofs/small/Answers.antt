@@ -1,16 +1,15 @@
 -- `small` walks the list: what is left of it is small exactly where the whole list is.
 use mathlib.Core.Path.{◌≡◌, refl, sym, ◌∙◌, ap, ap₂, subst}
 use mathlib.Core.List.{List, ◌∷◌}
-use Prim.Native.Nat.{ℕ, zero, suc, ◌-◌, ◌≤◌}
+use Prim.Native.Nat.{ℕ, zero, suc}
 use native.Mathlib.Numerals.{add-one}
 use native.Mathlib.Omega.{arith}
-use borrow.Author.Rules.{rules}
 use lib.IntN.{ℤ, pos, neg_ℤ, nat_abs, ◌-ℤ◌, +ℤ_idl}
-use lib.ListN.{length, drop, drop_of_length-le}
+use lib.ListN.{drop, drop_of_length-le}
 use lib.Seq.{drop-cons}
 use lib.Signed.{pos-nat_abs, yes_non_neg}
 use mir.Syntax.{w32}
-use mir.Val.{SFits, to_z}
+use mir.Val.{SFits}
 use mir.Facts.{to_z-of_z}
 use Rattle.integers.specs.Vectors.{«at», within, small}
 use Rattle.integers.proofs.small.Goals as goal

@@ -6,7 +6,7 @@ use Rattle.std.proofs.lemmas.List.{length-map, length-replicate}
 use Rattle.integers.specs.Laws.Difference.{by_d, ints, by_d₂, by_d₃, by_d₄}
 use Rattle.integers.specs.Laws.Loops.{map_at}
 use Rattle.integers.specs.Laws.Sizes.{abs-add, abs-mul}
-use Rattle.integers.specs.Vectors.{«at», zeros, add_v, neg_v, scale_v, sum_v, dot, Bounded, Sized, small}
+use Rattle.integers.specs.Vectors.{«at», zeros, add_v, neg_v, scale_v, sum_v, dot, Bounded, Sized}
 
 -- ---- entries and lengths: an equation of vectors is one of entries and one of lengths
 

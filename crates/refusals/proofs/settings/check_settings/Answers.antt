@@ -1,7 +1,6 @@
 -- `check_settings` turns the rule into its verdict.
 use mathlib.Core.Path.{◌≡◌, sym, ◌∙◌, ap}
 use mathlib.Core.Bool.{Bool}
-use borrow.Author.Rules.{rules}
 use mir.Syntax.{w32}
 use mir.Val.{SFits}
 use mir.Facts.{to_z-of_z}

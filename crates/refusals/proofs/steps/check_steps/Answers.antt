@@ -1,7 +1,6 @@
 -- `check_steps` turns the rule into its verdict.
 use mathlib.Core.Path.{sym, ◌∙◌, ap}
 use mathlib.Core.Bool.{Bool}
-use borrow.Author.Rules.{rules}
 use Rattle.refusals.specs.declared.Refusal.TheVariants.{Steps}
 use Rattle.refusals.specs.Verdicts.{unless}
 use Rattle.refusals.proofs.steps.check_steps.Goals as goal

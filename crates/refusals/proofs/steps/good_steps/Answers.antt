@@ -1,5 +1,4 @@
 -- `good_steps` is the rule for a step list, test by test.
-use borrow.Author.Rules.{rules}
 use borrow.Author.Tests.{le-leb, lt-leb}
 use Rattle.refusals.specs.Steps.{good_steps}
 use Rattle.refusals.proofs.steps.good_steps.Goals as goal

@@ -1,19 +1,8 @@
 -- `rising` walks the list: what is left of it rises from the last step seen exactly where the whole list rises from 0.
-use mathlib.Core.Path.{◌≡◌, refl, sym, ◌∙◌, ap}
-use mathlib.Core.Bool.{true, false}
-use mathlib.Core.List.{List, ◌∷◌}
-use Prim.Native.Nat.{ℕ, suc, ◌-◌, ◌≤◌}
-use native.Mathlib.Numerals.{add-one}
-use native.Mathlib.Omega.{arith}
-use borrow.Author.Rules.{rules}
-use lib.IntN.{ℤ, pos}
-use lib.ListN.{length, get_or, drop, drop_of_length-le}
-use lib.Seq.{drop-cons}
-use lib.Signed.{lt_z}
-use mir.Syntax.{w32}
-use mir.Val.{SFits, to_z}
-use mir.Facts.{to_z-of_z}
-use Rattle.integers.specs.Laws.Sizes.{le_z-not, lt_z-not}
+use mathlib.Core.Path.{◌≡◌}
+use Prim.Native.Nat.{◌-◌, ◌≤◌}
+use lib.IntN.{pos}
+use lib.ListN.{length, drop}
 use Rattle.refusals.specs.Steps.{rising}
 use Rattle.refusals.proofs.steps.rising.Given as goal
 
