@@ -166,4 +166,6 @@ pub shape_of-out : goal.shape_of-out
 shape_of-out c = c.before.loop-t.invariant.long
 
 pub returns : goal.returns
-returns c = let l = c.before in let w = w l in walked_all e8 nearest (q w) (m w) (x w) (steps w) (found w) (t l) l.loop-t.out (walked l) (omega arith)
+returns c =
+    let l = c.before in let w = w l in
+    let h = walked_all e8 nearest (q w) (m w) (x w) (steps w) (found w) (t l) l.loop-t.out (walked l) (omega arith) in record { answer = h.0; room = h.1 }
