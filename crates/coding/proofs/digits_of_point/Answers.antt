@@ -1,20 +1,15 @@
 -- `digits_of_point` answers what is left over and writes the digits where nothing is refused.
-use Rattle.std.proofs.Common.{arith, sym, ap, subst, ◌∙◌, ◌≡◌, ℕ, ◌*◌, ◌^◌, ◌<◌, ◌≤◌, List, ◌++◌, length, drop, w64}
+use Rattle.std.proofs.Common.{arith, sym, ◌∙◌, ◌≡◌, ◌*◌, ◌^◌, ◌<◌, ◌++◌, length, drop, w64}
 use Rattle.std.specs.Prelude.{ℤ, nat_abs}
 use Rattle.std.proofs.lemmas.Int.{to_z-of_z}
 use lib.Signed.{mag}
 use mir.Val.{SFits, to_z, of_z}
 use Rattle.integers.specs.Laws.Sums.{sized-more}
-use Rattle.integers.specs.Vectors.{Sized}
-use Rattle.refusals.specs.declared.Verdict.{Verdict}
-use Rattle.refusals.specs.Answers.{written}
 use Rattle.refusals.specs.Limits.{point_most}
-use Rattle.lattice.specs.Answers.{answered}
 use Rattle.coding.specs.Answers.{coded, digit_room}
 use Rattle.coding.specs.Laws.Asked.{allowed-base, PointTaken, point-taken, leftover-narrow}
 use Rattle.layers.specs.E8.{digits8, leftover8}
 use Rattle.layers.specs.Laws.E8.{digits8-long}
-use Rattle.layers.specs.Sizes.{Base}
 use Rattle.coding.proofs.digits_of_point.Goals as goal
 use Rattle.coding.proofs.digits_of_point.Goals.{In-Accepted, After-layers, After-digits-g}
 

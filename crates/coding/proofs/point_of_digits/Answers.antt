@@ -1,5 +1,5 @@
 -- `point_of_digits` answers the decoded point where nothing is refused.
-use Rattle.std.proofs.Common.{arith, sym, ◌∙◌, ◌≡◌, ℕ, ◌^◌, ◌<◌, ◌≤◌, w64}
+use Rattle.std.proofs.Common.{arith, sym, ◌∙◌, ◌≡◌, ◌^◌, ◌<◌, w64}
 use Rattle.std.specs.Prelude.{ℤ, nat_abs}
 use Rattle.std.proofs.lemmas.Int.{to_z-of_z}
 use lib.Signed.{mag}
@@ -7,7 +7,6 @@ use mir.Val.{SFits, to_z, of_z}
 use Rattle.coding.specs.Answers.{decoded}
 use Rattle.coding.specs.Laws.Asked.{allowed-base, DigitsTaken, digits-taken, decoded-narrow}
 use Rattle.layers.specs.E8.{decode8}
-use Rattle.layers.specs.Sizes.{long_power}
 use Rattle.coding.proofs.point_of_digits.Goals as goal
 use Rattle.coding.proofs.point_of_digits.Goals.{In-Accepted}
 

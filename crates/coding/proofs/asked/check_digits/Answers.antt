@@ -1,5 +1,5 @@
 -- `check_digits` is the list of checks, test by test.
-use Rattle.std.proofs.Common.{arith, sym, ap, ◌∙◌, ℕ, ◌*◌, nat_abs, length, eq-eqb, ne_eqb, rules}
+use Rattle.std.proofs.Common.{sym, ap, ◌∙◌, ℕ, ◌*◌, nat_abs, length, eq-eqb, ne_eqb}
 use Rattle.refusals.specs.Laws.Verdicts.{first-last}
 use Rattle.coding.specs.Answers.{check_below, check_digits}
 use Rattle.coding.specs.Laws.Asked.{checked-allowed}

@@ -1,5 +1,5 @@
 -- `check_point` is the list of checks, test by test.
-use Rattle.std.proofs.Common.{arith, sym, ◌∙◌, ◌*◌, nat_abs, length, eq-eqb, ne_eqb, le-leb}
+use Rattle.std.proofs.Common.{arith, sym, ◌*◌, nat_abs, length, eq-eqb, ne_eqb, le-leb}
 use Rattle.std.proofs.lemmas.Bool.{lt-leb}
 use Rattle.coding.specs.Answers.{check_point}
 use Rattle.coding.specs.Laws.Asked.{checked-allowed}

@@ -1,6 +1,6 @@
 -- `count_up` goes from the first digit on: those before k are done, and it ends at the first that goes up.
 use Rattle.std.proofs.Common.{add-one, arith, get_or}
-use Rattle.coding.specs.Laws.Counting.{carrying-up, carrying-on, carrying-done}
+use Rattle.coding.specs.Laws.Counting.{carrying-up, carrying-done}
 use Rattle.coding.proofs.counting.count_up.Goals as goal
 
 pub returns-then-d-q : goal.returns-then-d-q
