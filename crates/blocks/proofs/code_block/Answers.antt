@@ -2,7 +2,7 @@
 use mathlib.Core.Path.{◌≡◌, sym, ◌∙◌, ap, ap₂, subst, subst₂}
 use mathlib.Core.Bool.{Bool, true, false, cond}
 use mathlib.Core.List.{List}
-use Prim.Native.Nat.{ℕ, suc, ◌+◌, ◌*◌, ◌-◌, ◌<◌, ◌≤◌}
+use Prim.Native.Nat.{ℕ, suc, ◌+◌, ◌*◌, ◌<◌, ◌≤◌}
 use native.Mathlib.Nat.{le_refl}
 use native.Mathlib.Numerals.{add-one}
 use native.Mathlib.Omega.{arith}
@@ -166,4 +166,6 @@ pub shape_of-out : goal.shape_of-out
 shape_of-out c = c.before.loop-t.invariant.long
 
 pub returns : goal.returns
-returns c = let l = c.before in let w = w l in walked_all e8 nearest (q w) (m w) (x w) (steps w) (found w) (t l) l.loop-t.out (walked l) (omega arith)
+returns c =
+    let l = c.before in let w = w l in
+    let h = walked_all e8 nearest (q w) (m w) (x w) (steps w) (found w) (t l) l.loop-t.out (walked l) (omega arith) in record { answer = h.0; room = h.1 }

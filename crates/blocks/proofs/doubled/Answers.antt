@@ -1,13 +1,13 @@
 -- `doubled` fills by twice each reading: after i turns the first i entries are right; twice a number of 32 bits fits 64.
 use mathlib.Core.Path.{refl}
 use mathlib.Core.List.{List}
-use Prim.Native.Nat.{◌-◌, ◌^◌, ◌≤◌}
+use Prim.Native.Nat.{◌^◌, ◌≤◌}
 use native.Mathlib.Omega.{arith}
-use lib.IntN.{ℤ, pos, negsuc, nat_abs, ◌*ℤ◌}
+use lib.IntN.{ℤ, pos, negsuc, nat_abs}
 use mir.Syntax.{w32, w64}
 use mir.Val.{SFits}
 use mir.Facts.{to_z-of_z, sfits_widen}
-use Rattle.integers.specs.Laws.Loops.{Filled, filled_more, filled-all}
+use Rattle.integers.specs.Laws.Loops.{filled_more, filled-all}
 use Rattle.integers.specs.Laws.Sizes.{fits-mul}
 use Rattle.integers.specs.Vectors.{«at»}
 use Rattle.blocks.proofs.doubled.Goals as goal

@@ -1,15 +1,7 @@
 -- `doubled` fills by twice each reading: after i turns the first i entries are right; twice a number of 32 bits fits 64.
-use mathlib.Core.Path.{refl}
-use mathlib.Core.List.{List}
-use Prim.Native.Nat.{◌-◌, ◌^◌, ◌≤◌}
-use native.Mathlib.Omega.{arith}
-use lib.IntN.{ℤ, pos, negsuc, nat_abs, ◌*ℤ◌}
-use mir.Syntax.{w32, w64}
-use mir.Val.{SFits}
-use mir.Facts.{to_z-of_z, sfits_widen}
-use Rattle.integers.specs.Laws.Loops.{Filled, filled_more, filled-all}
-use Rattle.integers.specs.Laws.Sizes.{fits-mul}
-use Rattle.integers.specs.Vectors.{«at»}
+use Prim.Native.Nat.{◌-◌}
+use lib.IntN.{ℤ, pos, ◌*ℤ◌}
+use Rattle.integers.specs.Laws.Loops.{Filled}
 use Rattle.blocks.proofs.doubled.Given as goal
 
 abbrev pub twice : ℤ → ℤ

@@ -5,7 +5,6 @@ use mathlib.Core.List.{List, [], ◌∷◌, ◌++◌, append-nil}
 use Prim.Native.Nat.{ℕ, suc, ◌+◌, ◌*◌, ◌-◌, ◌^◌, ◌<◌, ◌≤◌}
 use native.Mathlib.Numerals.{add-one}
 use native.Mathlib.Omega.{arith}
-use borrow.Author.Rules.{rules}
 use borrow.Rule.Slice.PartMut.{put_mid}
 use lib.IntN.{ℤ, pos, nat_abs, ◌*ℤ◌}
 use lib.ListN.{length, take, drop, set, length-set, length-take, length-drop, drop_of_length-le}
@@ -106,8 +105,8 @@ pub small-requires : goal.small-requires
 small-requires c = let s = c.before in simp (to_z-of_z, s.ranges.s, s.ranges.reach, far64 s.before, far32 s.before) (not_negative s.before)
 
 -- what the test said
-near-is : (c : After-small) → let s = c.before.before in c.small.result ≡ in_reach e8 nearest (q s.before) (m s.before) (z s.before) (x s.before)
-near-is c = let s = c.before.before in (simp (to_z-of_z, s.ranges.s, s.ranges.reach, far64 s.before, far32 s.before) at c.small.ensures) ∙ ap (λ (y : ℤ). small (nat_abs y) (x s.before)) (far-is s.before)
+near-is : (c : After-small) → let s = c.before.before in c.small.result ≡ in_reach e8 nearest (q s) (m s) (z s) (x s)
+near-is c = let s = c.before.before in (simp (to_z-of_z, s.ranges.s, s.ranges.reach, far64 s, far32 s) at c.small.ensures) ∙ ap (λ (y : ℤ). small (nat_abs y) (x s)) (far-is s)
 
 pub overflow_cast-out : goal.overflow_cast-out
 overflow_cast-out c = record { fits = omega (arith, c.before.before.before.requires.2) }
@@ -172,5 +171,5 @@ pub returns-then-small : goal.returns-then-small
 returns-then-small c = record { answer = tested c; room = room-is c ∙ room_after (s c) true (sym (near-is (near c).before) ∙ (near c).if-small.true) }
 
 pub returns : goal.returns
-returns c = let s = c.before.before.before in let e = sym (near-is c.before) ∙ c.if-small.false in let l : 2 ≤ q s = two s in
+returns c = let s = c.before.before.before.before in let e = sym (near-is c.before.before) ∙ c.if-small.false in let l : 2 ≤ q s = two s in
     record { answer = sym (past-reach e8 nearest (x s) s.requires.0.long (q s) (m s) (omega arith) (z s) (divisor-positive (z s) s.requires.1) e); room = room_after s false e }

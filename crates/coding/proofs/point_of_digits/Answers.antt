@@ -1,82 +1,45 @@
 -- `point_of_digits` answers the decoded point where nothing is refused.
-use mathlib.Core.Path.{◌≡◌, sym, ◌∙◌, ap, ap₂, subst, subst₂}
-use Prim.Native.Nat.{ℕ, ◌^◌, ◌≤◌}
-use native.Mathlib.Omega.{arith}
-use borrow.Author.Rules.{rules}
-use lib.IntN.{ℤ, nat_abs}
-use mir.Syntax.{w64}
-use mir.Val.{SFits}
-use mir.Facts.{to_z-of_z}
-use Rattle.refusals.specs.declared.Verdict.{Verdict}
-use Rattle.refusals.specs.declared.Verdict.TheVariants.{Accepted}
-use Rattle.lattice.specs.Answers.{answered}
-use Rattle.coding.specs.Answers.{check_digits, decoded}
-use Rattle.layers.specs.Digits.{IsCode}
-use Rattle.layers.specs.E8.{decode8}
+use Rattle.std.proofs.Common.{arith, sym, ◌∙◌, ◌≡◌, ◌^◌, ◌<◌, w64}
+use Rattle.std.specs.Prelude.{ℤ, nat_abs}
+use Rattle.std.proofs.lemmas.Int.{to_z-of_z}
+use lib.Signed.{mag}
+use mir.Val.{SFits, to_z, of_z}
+use Rattle.coding.specs.Answers.{decoded}
 use Rattle.coding.specs.Laws.Asked.{allowed-base, DigitsTaken, digits-taken, decoded-narrow}
-use Rattle.layers.specs.Sizes.{Base, long_power}
+use Rattle.layers.specs.E8.{decode8}
 use Rattle.coding.proofs.point_of_digits.Goals as goal
-use Rattle.coding.proofs.point_of_digits.Goals.{After-decode_one-e, After-layers, Start}
-use Rattle.coding.proofs.point_of_digits.Lts as lts
-use Rattle.coding.proofs.point_of_digits.Tie as tie
-use Rattle.coding.proofs.point_of_digits.Reads as reads
+use Rattle.coding.proofs.point_of_digits.Goals.{In-Accepted}
 
-abbrev In-Accepted : Type 0
-In-Accepted = lts.After-enum_told tie.the-claims reads.Pre reads.Post tie.handed_clauses
+taken : (c : In-Accepted) → DigitsTaken c.args.s c.args.ds.now
+taken c = digits-taken c.args.s c.args.ds.now (sym c.in-Accepted.ensures)
 
--- where nothing is refused
-module _ (c : In-Accepted) where
-  abbrev s : Start
-  s = c.before.before.before.before
-
-  accepted : check_digits s.args.s s.args.ds.now ≡ Accepted
-  accepted = sym c.before.before.check_digits.ensures ∙ c.enum_told-1.given.1
-
-  taken : DigitsTaken s.args.s s.args.ds.now
-  taken = digits-taken s.args.s s.args.ds.now accepted
-
-  power : nat_abs s.args.s.q ^ nat_abs s.args.s.m ≤ long_power
-  power = omega (arith, taken.allowed.power)
-
--- the numbers that decoding is given
-module _ (c : After-layers) where
-  abbrev told : In-Accepted
-  told = c.before.before.before.before
-
-  fits : SFits w64 c.before.base.result
-  fits = record { sfits = c.before.base.type_inv }
-
--- the point found
-found : (c : After-decode_one-e) → let v = (s (told c.before)).args in c.decode_one-e.result ≡ decode8 (nat_abs v.s.q) (nat_abs v.s.m) v.ds.now
-found c = let l = c.before in let v = (s (told l)).args in
-    c.decode_one-e.ensures ∙ ap (λ (q : ℤ). decode8 (nat_abs q) l.layers.result v.ds.now) (to_z-of_z (fits l))
-    ∙ ap₂ (λ (q : ℤ) (m : ℕ). decode8 (nat_abs q) m v.ds.now) l.before.base.ensures l.layers.ensures
+-- the base as the layers take it is that of the settings
+settled : (z q : ℤ) → z ≡ q → mag z < 2 ^ 63 → to_z w64 (of_z w64 z) ≡ q
+settled z q e h = let k : SFits w64 z = record { sfits = h } in to_z-of_z w64 z k ∙ e
 
 pub base-requires : goal.base-requires
-base-requires c = (taken c.before.before).allowed
+base-requires c = (taken c).allowed
 
 pub layers-requires : goal.layers-requires
-layers-requires c = (taken c.before.before.before).allowed
+layers-requires c = (taken (goal.at.layers-requires c).In-Accepted).allowed
 
 pub decode_one-e-requires : goal.decode_one-e-requires
 decode_one-e-requires c =
-    let t = told c in let v = (s t).args in let h = taken t in let q-is : c.before.base.result ≡ v.s.q = c.before.base.ensures in let m-is : c.layers.result ≡ nat_abs v.s.m = c.layers.ensures in
-    simp (to_z-of_z, fits c) (
-      subst Base (sym q-is) (allowed-base v.s.q v.s.m h.allowed),
-      subst₂ (λ (z : ℤ) (k : ℕ). nat_abs z ^ k ≤ long_power) (sym q-is) (sym m-is) (power t),
-      subst₂ (λ (z : ℤ) (k : ℕ). IsCode 8 (nat_abs z) k v.ds.now) (sym q-is) (sym m-is) h.code,
-    )
+    let h = taken (goal.at.decode_one-e-requires c).In-Accepted in
+    rw (settled c.base.result c.args.s.q c.base.ensures c.base.type_inv, c.layers.ensures) (allowed-base c.args.s.q c.args.s.m h.allowed, omega (arith, h.allowed.power), h.code)
 
 pub narrow-requires : goal.narrow-requires
-narrow-requires c = let d = c.before in let t = told d.before in rw (found d) (decoded-narrow (s t).args.s (s t).args.ds.now (taken t))
+narrow-requires c =
+    let e : c.decode_one-e.result ≡ decode8 (nat_abs c.args.s.q) (nat_abs c.args.s.m) c.args.ds.now = cc (settled c.base.result c.args.s.q c.base.ensures c.base.type_inv) in
+    rw e (decoded-narrow c.args.s c.args.ds.now (taken (goal.at.narrow-requires c).In-Accepted))
 
 pub returns-in-Refused : goal.returns-in-Refused
 unfolding decoded
-returns-in-Refused c = let k = c.before.before.before.before in let v = k.before.args in
-    c.refused.ensures ∙ ap (λ (w : Verdict). answered w (decode8 (nat_abs v.s.q) (nat_abs v.s.m) v.ds.now)) (sym (sym k.check_digits.ensures ∙ c.before.before.r-1.given.1))
+returns-in-Refused c = record { answer = rw (sym c.in-Refused.ensures) c.refused.ensures }
 
 pub returns-in-Accepted : goal.returns-in-Accepted
 unfolding decoded
-returns-in-Accepted c = let d = c.before.before in let t = told d.before in let v = (s t).args in
-    let e : c.narrow.result ≡ decode8 (nat_abs v.s.q) (nat_abs v.s.m) v.ds.now = c.narrow.ensures ∙ found d in
-    rw e (ap (λ (w : Verdict). answered w (decode8 (nat_abs v.s.q) (nat_abs v.s.m) v.ds.now)) (sym (accepted t)))
+returns-in-Accepted c =
+    let z = settled c.base.result c.args.s.q c.base.ensures c.base.type_inv in
+    let e : c.narrow.result ≡ decode8 (nat_abs c.args.s.q) (nat_abs c.args.s.m) c.args.ds.now = cc in
+    record { answer = rw (sym c.in-Accepted.ensures, e) }

@@ -1,7 +1,6 @@
 -- `check_below` accepts at a glance where the greatest digit is below q; else the walk finds the first that is not.
 use mathlib.Core.Path.{sym}
 use Prim.Native.Nat.{suc}
-use borrow.Author.Rules.{rules}
 use Rattle.coding.specs.Laws.Asked.{below-accepted}
 use Rattle.layers.specs.Laws.Rows.{below_more}
 use Rattle.coding.proofs.asked.check_below.Goals as goal

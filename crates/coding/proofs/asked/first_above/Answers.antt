@@ -2,11 +2,11 @@
 use mathlib.Core.Path.{◌≡◌, sym, ◌∙◌, ap, ap₂}
 use mathlib.Core.Bool.{Bool, true, false, cond}
 use mathlib.Core.List.{List}
-use Prim.Native.Nat.{ℕ, suc, ◌+◌, ◌-◌, ◌≤◌}
+use Prim.Native.Nat.{ℕ, suc, ◌+◌}
 use native.Mathlib.Omega.{arith}
 use borrow.Author.Tests.{lt-ltb, le-ltb}
 use lib.Dec.{ltb}
-use lib.ListN.{length, get_or, drop, drop_of_length-le}
+use lib.ListN.{get_or, drop, drop_of_length-le}
 use lib.Seq.{drop-cons}
 use Rattle.refusals.specs.declared.Refusal.TheVariants.{Byte}
 use Rattle.refusals.specs.declared.Verdict.TheVariants.{Refused}

@@ -4,7 +4,6 @@ use mathlib.Core.Bool.{Bool, true, ◌&&◌}
 use mathlib.Core.List.{List}
 use Prim.Native.Nat.{◌^◌}
 use native.Mathlib.Omega.{arith}
-use borrow.Author.Rules.{rules}
 use lib.IntN.{ℤ}
 use Rattle.integers.specs.Laws.Sums.{sized-more}
 use Rattle.integers.specs.Laws.Tests.{sized-small}

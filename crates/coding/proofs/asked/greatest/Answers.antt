@@ -1,9 +1,9 @@
 -- `greatest` walks the digits: after i of them none of these is past the number held.
-use Prim.Native.Nat.{ℕ, suc, ◌-◌, ◌<◌, ◌≤◌}
+use Prim.Native.Nat.{ℕ, suc, ◌≤◌}
 use native.Mathlib.Decide.{dec_le}
 use native.Mathlib.Omega.{arith}
 use mathlib.Core.Path.{◌≡◌, subst}
-use lib.ListN.{length, get_or}
+use lib.ListN.{get_or}
 use Rattle.layers.specs.Laws.Rows.{below_all}
 use Rattle.coding.proofs.asked.greatest.Goals as goal
 

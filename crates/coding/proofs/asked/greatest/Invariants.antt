@@ -1,10 +1,6 @@
 -- `greatest` walks the digits: after i of them none of these is past the number held.
-use Prim.Native.Nat.{ℕ, suc, ◌-◌, ◌<◌, ◌≤◌}
-use native.Mathlib.Decide.{dec_le}
-use native.Mathlib.Omega.{arith}
-use mathlib.Core.Path.{◌≡◌, subst}
+use Prim.Native.Nat.{ℕ, ◌-◌, ◌<◌, ◌≤◌}
 use lib.ListN.{length, get_or}
-use Rattle.layers.specs.Laws.Rows.{below_all}
 use Rattle.coding.proofs.asked.greatest.Given as goal
 
 abbrev pub invariant-loop-i : goal.invariant-loop-i
