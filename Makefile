@@ -2,8 +2,7 @@
 .PHONY: all test bench clean
 
 all:
-	rt check
-	rt staticlib enkhovrag
+	bash tools/build
 	bash examples/run
 	target/bin/show < crates/show/stdin
 
