@@ -1,6 +1,5 @@
 -- `coefficients` is a quarter of the inverse by the point.
 use mathlib.Core.Path.{◌∙◌, ap}
-use borrow.Author.Rules.{rules}
 use Rattle.lattice.specs.Basis.{floors}
 use Rattle.lattice.proofs.basis.coefficients.Goals as goal
 

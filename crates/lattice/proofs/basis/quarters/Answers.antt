@@ -1,7 +1,6 @@
 -- `quarters` shifts each entry right by two places, which divides by 4 and rounds down: after i turns the first i are right.
 use mathlib.Core.Path.{refl}
 use mathlib.Core.List.{List}
-use Prim.Native.Nat.{◌-◌}
 use native.Mathlib.Omega.{arith}
 use lib.IntN.{ℤ, pos}
 use lib.Signed.{shr_z, mag_shr}
@@ -12,7 +11,7 @@ use Rattle.integers.specs.Floor.{floor_div}
 use Rattle.integers.specs.Vectors.{«at»}
 use Rattle.integers.specs.Laws.Sizes.{fits-abs}
 use Rattle.integers.specs.Laws.Floors.{floor_div-shr}
-use Rattle.integers.specs.Laws.Loops.{Filled, filled_more, filled-all}
+use Rattle.integers.specs.Laws.Loops.{filled_more, filled-all}
 use Rattle.lattice.proofs.basis.quarters.Goals as goal
 use Rattle.lattice.proofs.basis.quarters.Goals.{In-loop-i}
 

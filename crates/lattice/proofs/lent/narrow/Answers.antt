@@ -1,7 +1,6 @@
 -- `narrow` copies entry by entry; each fits 32 bits by its size.
 use mathlib.Core.Path.{refl, ◌∙◌}
 use mathlib.Core.List.{List, map-id}
-use Prim.Native.Nat.{◌-◌}
 use native.Mathlib.Omega.{arith}
 use lib.IntN.{ℤ, pos}
 use mir.Syntax.{w32, w64}
@@ -9,7 +8,7 @@ use mir.Val.{SFits}
 use mir.Facts.{to_z-of_z}
 use Rattle.integers.specs.Vectors.{«at»}
 use Rattle.integers.specs.Laws.Sizes.{fits-mag}
-use Rattle.integers.specs.Laws.Loops.{Filled, filled_more, filled-all}
+use Rattle.integers.specs.Laws.Loops.{filled_more, filled-all}
 use Rattle.lattice.proofs.lent.narrow.Goals as goal
 use Rattle.lattice.proofs.lent.narrow.Goals.{After-r-1}
 

@@ -1,14 +1,13 @@
 -- `widen` copies entry by entry; a number of 32 bits fits 64.
 use mathlib.Core.Path.{refl, ◌∙◌}
 use mathlib.Core.List.{List, map-id}
-use Prim.Native.Nat.{◌-◌}
 use native.Mathlib.Omega.{arith}
 use lib.IntN.{ℤ, pos}
 use mir.Syntax.{w32, w64}
 use mir.Val.{SFits}
 use mir.Facts.{to_z-of_z, sfits_widen}
 use Rattle.integers.specs.Vectors.{«at»}
-use Rattle.integers.specs.Laws.Loops.{Filled, filled_more, filled-all}
+use Rattle.integers.specs.Laws.Loops.{filled_more, filled-all}
 use Rattle.lattice.proofs.lent.widen.Goals as goal
 use Rattle.lattice.proofs.lent.widen.Goals.{After-r-1}
 

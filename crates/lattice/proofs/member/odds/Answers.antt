@@ -1,9 +1,8 @@
 -- `odds` counts the odd entries: after i turns those of the first i.
 use mathlib.Core.Path.{◌≡◌, refl, sym, ◌∙◌, ap, ap₂}
-use Prim.Native.Nat.{◌+◌, ◌-◌, ◌≤◌}
+use Prim.Native.Nat.{◌+◌}
 use native.Mathlib.Numerals.{add-one}
 use native.Mathlib.Omega.{arith}
-use borrow.Author.Rules.{rules}
 use lib.ListN.{take}
 use lib.Seq.{take_all}
 use mir.Syntax.{w64}

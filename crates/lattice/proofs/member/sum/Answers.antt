@@ -1,14 +1,14 @@
 -- `sum` adds the entries up: after i turns t is the sum of the first i.
-use mathlib.Core.Path.{◌≡◌, refl, ◌∙◌, ap}
+use mathlib.Core.Path.{refl, ◌∙◌, ap}
 use mathlib.Core.List.{List}
-use Prim.Native.Nat.{ℕ, suc, ◌-◌, ◌^◌, ◌≤◌}
+use Prim.Native.Nat.{ℕ, suc, ◌^◌}
 use native.Mathlib.Numerals.{add-one}
 use native.Mathlib.Omega.{arith}
 use lib.IntN.{ℤ, ◌+ℤ◌}
 use lib.ListN.{take}
 use lib.Seq.{take_all}
 use mir.Syntax.{w64}
-use mir.Val.{SFits, to_z}
+use mir.Val.{SFits}
 use mir.Facts.{to_z-of_z}
 use Rattle.integers.specs.Laws.Sizes.{fits-abs}
 use Rattle.integers.specs.Laws.Sums.{sum-take-suc, sum_bound}
