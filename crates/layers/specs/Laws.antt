@@ -1,14 +1,6 @@
 -- Proved facts of coding in layers. `Theorems`, `Widths` and `Inner` have the five that 01 asks for, over any lattice and rule; `E8` has them for E8.
 pub mod Points
-pub mod Remainders
-pub mod Splitting
 pub mod Weights
-pub mod Theorems
-pub mod Widths
 pub mod Inner
 pub mod Rows
 pub mod Entries
-pub mod Loops
-pub mod Bases
-pub mod E8
-pub mod Table

@@ -3,4 +3,3 @@ pub mod Fractions
 pub mod Taking
 pub mod Report
 pub mod Words
-pub mod Laws

@@ -15,8 +15,8 @@ use Rattle.integers.specs.Laws.Sizes.{fits-abs}
 use Rattle.integers.specs.Vectors.{«at»}
 use Rattle.rounding.specs.Rounding.{Divisor}
 use Rattle.layers.specs.E8.{e8, nearest}
-use Rattle.layers.specs.Laws.Bases.{base-two}
-use Rattle.layers.specs.Laws.E8.{digits8-long}
+use Rattle.layers.proofs.Laws.Bases.{base-two}
+use Rattle.layers.proofs.Laws.E8.{digits8-long}
 use Rattle.layers.specs.Sizes.{width}
 use Rattle.blocks.specs.Laws.Fitting.{Walked, walked_none, walked_here, walked_more, walked_all}
 use Rattle.blocks.specs.Laws.Sizes.{divisor-positive, width-under}

@@ -16,8 +16,8 @@ use Rattle.integers.specs.Laws.Linear.{Z}
 use Rattle.integers.specs.Laws.Sizes.{fits-mag}
 use Rattle.integers.specs.Vectors.{small}
 use Rattle.layers.specs.E8.{e8, nearest, digits8}
-use Rattle.layers.specs.Laws.Bases.{base-two}
-use Rattle.layers.specs.Laws.E8.{digits8-long}
+use Rattle.layers.proofs.Laws.Bases.{base-two}
+use Rattle.layers.proofs.Laws.E8.{digits8-long}
 use Rattle.layers.specs.Sizes.{width}
 use Rattle.blocks.specs.declared.Trial.{Trial}
 use Rattle.blocks.specs.Laws.Sizes.{divisor-positive, divisor-is, reach-under}

@@ -8,7 +8,7 @@ use mir.Syntax.{w64}
 use mir.Val.{SFits, to_z}
 use mir.Facts.{to_z-of_z}
 use Rattle.integers.specs.Laws.Sizes.{fits-abs, fits-mul}
-use Rattle.layers.specs.Laws.Bases.{base-is, base-two}
+use Rattle.layers.proofs.Laws.Bases.{base-is, base-two}
 use Rattle.layers.specs.Sizes.{width}
 use Rattle.blocks.specs.Laws.Sizes.{width-under}
 use Rattle.blocks.proofs.width.Goals as goal

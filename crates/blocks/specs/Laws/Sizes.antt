@@ -9,7 +9,7 @@ use Rattle.integers.specs.Laws.Sizes.{abs-from, abs-times, abs-mul-le}
 use Rattle.integers.specs.Laws.Sums.{sized-map, sized-more}
 use Rattle.integers.specs.Vectors.{«at», scale_v, Sized}
 use Rattle.rounding.specs.Rounding.{Divisor}
-use Rattle.layers.specs.Laws.Widths.{bounded-within, width-less}
+use Rattle.layers.proofs.Laws.Widths.{bounded-within, width-less}
 use Rattle.layers.specs.Rule.{Lattice, Rule}
 use Rattle.layers.specs.E8.{e8, nearest}
 use Rattle.layers.specs.Sizes.{width, long_power}

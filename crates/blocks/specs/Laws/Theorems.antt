@@ -8,11 +8,11 @@ use Rattle.integers.specs.Laws.Tests.{bounded-small}
 use Rattle.integers.specs.Vectors.{«at», zeros, add_v, scale_v, Bounded}
 use Rattle.layers.specs.Digits.{IsLayers, IsCode, cut}
 use Rattle.layers.specs.E8.{e8, nearest}
-use Rattle.layers.specs.Laws.Bases.{base-two}
-use Rattle.layers.specs.Laws.E8.{digits8-long}
+use Rattle.layers.proofs.Laws.Bases.{base-two}
+use Rattle.layers.proofs.Laws.E8.{digits8-long}
 use Rattle.layers.specs.Laws.Rows.{cut-joined, joined-code}
-use Rattle.layers.specs.Laws.Theorems.{leftover-in, digits_are, fits_iff}
-use Rattle.layers.specs.Laws.Widths.{bounded-within, decode-small}
+use Rattle.layers.proofs.Laws.Theorems.{leftover-in, digits_are, fits_iff}
+use Rattle.layers.proofs.Laws.Widths.{bounded-within, decode-small}
 use Rattle.layers.specs.Layers.{digits, leftover, decode}
 use Rattle.layers.specs.Rule.{Lattice, Rule}
 use Rattle.layers.specs.Sizes.{width, Base}

@@ -9,7 +9,7 @@ use Rattle.refusals.specs.Limits.{point_most}
 use Rattle.coding.specs.Answers.{coded, digit_room}
 use Rattle.coding.specs.Laws.Asked.{allowed-base, PointTaken, point-taken, leftover-narrow}
 use Rattle.layers.specs.E8.{digits8, leftover8}
-use Rattle.layers.specs.Laws.E8.{digits8-long}
+use Rattle.layers.proofs.Laws.E8.{digits8-long}
 use Rattle.coding.proofs.digits_of_point.Goals as goal
 use Rattle.coding.proofs.digits_of_point.Goals.{In-Accepted, After-layers, After-digits-g}
 

@@ -18,8 +18,8 @@ use Rattle.lattice.specs.Doubled.{is_point}
 use Rattle.coding.specs.Answers.{check_point, check_below, check_digits}
 use Rattle.layers.specs.Digits.{Below, IsCode}
 use Rattle.layers.specs.E8.{e8, nearest, leftover8, decode8}
-use Rattle.layers.specs.Laws.Bases.{decode8-sized}
-use Rattle.layers.specs.Laws.Widths.{leftover-stays}
+use Rattle.layers.proofs.Laws.Bases.{decode8-sized}
+use Rattle.layers.proofs.Laws.Widths.{leftover-stays}
 use Rattle.layers.specs.Sizes.{long_power, Base}
 
 -- the settings of an accepted check

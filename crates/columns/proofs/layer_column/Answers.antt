@@ -10,7 +10,7 @@ use Rattle.lattice.specs.Computed.{nearest_point}
 use Rattle.columns.specs.Narrow.{Narrow}
 use Rattle.columns.specs.Columns.{column}
 use Rattle.layers.specs.Digits.{IsLayer}
-use Rattle.layers.specs.Laws.Bases.{digits-sized}
+use Rattle.layers.proofs.Laws.Bases.{digits-sized}
 use Rattle.columns.specs.Laws.Columns.{digit_point-narrow, layer_point8-rest}
 use Rattle.layers.specs.Laws.Rows.{below_more}
 use Rattle.columns.proofs.layer_column.Goals as goal

@@ -11,7 +11,7 @@ use mir.Facts.{to_z-of_z}
 use Rattle.integers.specs.Vectors.{«at»}
 use Rattle.columns.specs.Columns.{column}
 use Rattle.layers.specs.E8.{layer_point8}
-use Rattle.layers.specs.Laws.Bases.{layer_point8-sized}
+use Rattle.layers.proofs.Laws.Bases.{layer_point8-sized}
 use Rattle.columns.specs.Laws.Columns.{Pointed, Pointing, pointed-none, pointing-none, pointing-more, pointed-more, pointed-all}
 use Rattle.columns.proofs.layer_points.Given as goal
 

@@ -15,7 +15,7 @@ use Rattle.columns.specs.Narrow.{Narrow}
 use Rattle.columns.specs.Columns.{column, Grid, Square8, PointColumns}
 use Rattle.layers.specs.Digits.{IsLayer}
 use Rattle.layers.specs.E8.{layer_point8}
-use Rattle.layers.specs.Laws.Bases.{base-is, base-divisor}
+use Rattle.layers.proofs.Laws.Bases.{base-is, base-divisor}
 use Rattle.layers.specs.Laws.Rows.{below_at}
 use Rattle.layers.specs.Layers.{digit_point, layer_point}
 use Rattle.layers.specs.Sizes.{Base}

@@ -16,10 +16,10 @@ use Rattle.rounding.specs.declared.half.Mend.{Mend}
 use Rattle.rounding.specs.declared.half.Scan.{Scan}
 use Rattle.rounding.specs.declared.point.Choice.{Choice}
 use Rattle.lattice.specs.Computed.{nearest_point}
-use Rattle.rounding.specs.Laws.Choice.{mended-bound, nearest_point-code}
+use Rattle.rounding.proofs.Laws.Choice.{mended-bound, nearest_point-code}
 use Rattle.rounding.specs.Laws.Keys.{key-small}
-use Rattle.rounding.specs.Laws.Lowered.{lowered-small}
-use Rattle.rounding.specs.Laws.Reciprocals.{twice-pos, round_is, left-small}
+use Rattle.rounding.proofs.Laws.Lowered.{lowered-small}
+use Rattle.rounding.proofs.Laws.Reciprocals.{twice-pos, round_is, left-small}
 use Rattle.columns.specs.Narrow.{Few, Near, Narrow, Part, Slim, Slender, Slight, brief, left_at, left_by, scanned_from}
 use Rattle.rounding.specs.Pass.{seen, scanned, mended, choose, chosen, spread_by}
 use Rattle.rounding.specs.Rounding.{round, left, sign, lowered, key, Divisor}

@@ -11,7 +11,7 @@ use mir.Syntax.{w64}
 use mir.Val.{SFits, to_z}
 use mir.Facts.{to_z-of_z}
 use Rattle.layers.specs.Digits.{joined, cut}
-use Rattle.layers.specs.Laws.Loops.{write-in}
+use Rattle.layers.proofs.Laws.Loops.{write-in}
 use Rattle.records.specs.Eight.Codes.{block_size, step_of, whole_point}
 use Rattle.decoding.specs.Decode.{Readable, reading_bytes, decoded_bytes}
 use Rattle.decoding.specs.Laws.Decode.{block-readable}

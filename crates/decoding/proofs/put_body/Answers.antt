@@ -9,7 +9,7 @@ use mir.Syntax.{w64}
 use mir.Val.{of_z}
 use mir.Facts.{to_z-of_z}
 use Rattle.layers.specs.Digits.{joined, cut}
-use Rattle.layers.specs.Laws.Bases.{base-is}
+use Rattle.layers.proofs.Laws.Bases.{base-is}
 use Rattle.records.specs.Eight.Codes.{block_size}
 use Rattle.decoding.specs.Decode.{decoded_bytes}
 use Rattle.decoding.proofs.put_body.Goals as goal

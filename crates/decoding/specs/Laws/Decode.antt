@@ -10,8 +10,8 @@ use Rattle.refusals.specs.Limits.{blocks_most}
 use Rattle.refusals.specs.Settings.{check_settings}
 use Rattle.refusals.specs.Steps.{check_steps}
 use Rattle.refusals.specs.Verdicts.{unless}
-use Rattle.layers.specs.Laws.Bases.{base-two}
-use Rattle.layers.specs.Laws.E8.{decode-in8, decode-times8}
+use Rattle.layers.proofs.Laws.Bases.{base-two}
+use Rattle.layers.proofs.Laws.E8.{decode-in8, decode-times8}
 use Rattle.records.specs.Eight.Codes.{Coder, IsBlock, block_size, blocks_in, code_blocks, check_frame, check_blocks, step_of, whole_point}
 use Rattle.decoding.specs.Decode.{Readable, fvecs_length, check_decode}
 use Rattle.records.specs.Frames.{good_record}

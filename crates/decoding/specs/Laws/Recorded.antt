@@ -8,7 +8,7 @@ use Rattle.blocks.specs.Laws.Fitting.{fitting-iff}
 use Rattle.blocks.specs.Laws.Theorems.{block-digits, block-decodes, block-long8}
 use Rattle.blocks.specs.Trials.{point_at, first_fitting, block_code}
 use Rattle.layers.specs.E8.{e8, nearest}
-use Rattle.readings.specs.Laws.Words.{word_first}
+use Rattle.readings.proofs.Laws.Words.{word_first}
 use Rattle.readings.specs.Words.{word_at}
 use Rattle.refusals.specs.declared.Verdict.TheVariants.{Accepted}
 use Rattle.refusals.specs.Limits.{blocks_most, m_most}

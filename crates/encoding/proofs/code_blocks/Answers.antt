@@ -15,7 +15,7 @@ use Rattle.integers.specs.Laws.Sums.{sized-part}
 use Rattle.integers.specs.Vectors.{Sized}
 use Rattle.layers.specs.Digits.{cut}
 use Rattle.layers.specs.E8.{e8, nearest}
-use Rattle.layers.specs.Laws.Loops.{write-in}
+use Rattle.layers.proofs.Laws.Loops.{write-in}
 use Rattle.blocks.specs.Trials.{first_fitting, block_code, tried_room}
 use Rattle.blocks.specs.Laws.Theorems.{tried-block8}
 use Rattle.refusals.specs.Laws.Verdicts.{refused-never}

@@ -6,7 +6,7 @@ use native.Mathlib.Omega.{arith}
 use borrow.Author.Rules.{rules}
 use lib.ListN.{length, get_or, take, drop, set, length-set, drop_of_length-le}
 use lib.Seq.{take_all}
-use Rattle.layers.specs.Laws.Loops.{write-next}
+use Rattle.layers.proofs.Laws.Loops.{write-next}
 use Rattle.encoding.proofs.put_block.Given as goal
 
 abbrev pub invariant-loop-i : goal.invariant-loop-i

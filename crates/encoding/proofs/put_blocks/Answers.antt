@@ -7,7 +7,7 @@ use borrow.Author.Rules.{rules}
 use borrow.Rule.Slice.PartMut.{put_mid}
 use lib.ListN.{length, take, drop, length-take, length-drop}
 use lib.Seq.{take-add}
-use Rattle.layers.specs.Laws.Loops.{write-in}
+use Rattle.layers.proofs.Laws.Loops.{write-in}
 use Rattle.records.specs.Laws.Parts.{part-ends}
 use Rattle.encoding.proofs.put_blocks.Goals as goal
 use Rattle.encoding.proofs.put_blocks.Goals.{After-put_block, In-loop-i, Start}

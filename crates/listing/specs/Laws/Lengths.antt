@@ -7,7 +7,7 @@ use Rattle.integers.specs.Vectors.{Bounded, Sized}
 use Rattle.blocks.specs.Trials.{block_code}
 use Rattle.layers.specs.Digits.{IsLayer, IsLayers, cut}
 use Rattle.layers.specs.E8.{e8, nearest, decode8}
-use Rattle.layers.specs.Laws.Bases.{digits-sized, decode8-sized}
+use Rattle.layers.proofs.Laws.Bases.{digits-sized, decode8-sized}
 use Rattle.layers.specs.Laws.Rows.{cut-layers}
 use Rattle.refusals.specs.declared.settings.Settings.{Settings}
 use Rattle.refusals.specs.declared.Refusal.{Refusal}

@@ -8,7 +8,7 @@ use lib.ListN.{take, drop}
 use Rattle.integers.specs.Vectors.{add_v, scale_v}
 use Rattle.layers.specs.Digits.{IsLayer}
 use Rattle.layers.specs.E8.{e8, nearest, layer_point8, decode8}
-use Rattle.layers.specs.Laws.Loops.{code-layer, decode-down}
+use Rattle.layers.proofs.Laws.Loops.{code-layer, decode-down}
 use Rattle.records.specs.Eight.Codes.{Digital}
 use Rattle.points.specs.Lanes.{Summable}
 use Rattle.points.specs.Laws.LanePoints.{two-digital, layer-narrow, above-narrow}

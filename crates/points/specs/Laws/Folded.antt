@@ -9,9 +9,9 @@ use Rattle.integers.specs.Vectors.{«at», add_v, scale_v}
 use Rattle.columns.specs.Columns.{column, LayerColumns, PointColumns}
 use Rattle.layers.specs.Digits.{IsLayer}
 use Rattle.layers.specs.E8.{e8, nearest, layer_point8, decode8}
-use Rattle.layers.specs.Laws.Bases.{base-is, base-two}
-use Rattle.layers.specs.Laws.E8.{decode-in8}
-use Rattle.layers.specs.Laws.Loops.{code-layer, decode-down}
+use Rattle.layers.proofs.Laws.Bases.{base-is, base-two}
+use Rattle.layers.proofs.Laws.E8.{decode-in8}
+use Rattle.layers.proofs.Laws.Loops.{code-layer, decode-down}
 use Rattle.records.specs.Eight.Codes.{Digital, AreCodes, whole_point}
 use Rattle.records.specs.Laws.Parts.{part-ends}
 use Rattle.points.specs.Lanes.{block_at, AllGathered, Taken, BlockPoints, whole_coordinate, FoldedRows, Foldable, FoldableRows}

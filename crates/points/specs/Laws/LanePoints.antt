@@ -10,11 +10,11 @@ use Rattle.integers.specs.Vectors.{«at», zeros, add_v, scale_v, Sized, range}
 use Rattle.columns.specs.Columns.{column, Square8, LayerColumns, PointColumns}
 use Rattle.layers.specs.Digits.{IsLayer, IsCode, cut}
 use Rattle.layers.specs.E8.{e8, nearest, layer_point8, decode8}
-use Rattle.layers.specs.Laws.Bases.{base-is, base-two}
-use Rattle.layers.specs.Laws.E8.{decode-in8, decode-small8}
-use Rattle.layers.specs.Laws.Loops.{code-drop, code-layer, decode-down}
-use Rattle.layers.specs.Laws.Splitting.{layer_point-in}
-use Rattle.layers.specs.Laws.Widths.{bounded-within, layer_point-small, width-less}
+use Rattle.layers.proofs.Laws.Bases.{base-is, base-two}
+use Rattle.layers.proofs.Laws.E8.{decode-in8, decode-small8}
+use Rattle.layers.proofs.Laws.Loops.{code-drop, code-layer, decode-down}
+use Rattle.layers.proofs.Laws.Splitting.{layer_point-in}
+use Rattle.layers.proofs.Laws.Widths.{bounded-within, layer_point-small, width-less}
 use Rattle.refusals.specs.Limits.{m_most, power_most}
 use Rattle.records.specs.Eight.Codes.{Digital, AreCodes, block_size, whole_point}
 use Rattle.points.specs.Lanes.{lane_digits, Gathered, LanePoints, BlockPoints, Summable, SummableRows, SummedRows}

@@ -7,8 +7,8 @@ use Rattle.std.proofs.Math.Seq.{take-nil, append_snoc}
 use Rattle.integers.specs.Laws.Loops.{map_at}
 use Rattle.integers.specs.Vectors.{Sized}
 use Rattle.layers.specs.Digits.{IsCode, cut}
-use Rattle.layers.specs.Laws.Bases.{base-two}
-use Rattle.layers.specs.Laws.E8.{decode-in8, decode-under8}
+use Rattle.layers.proofs.Laws.Bases.{base-two}
+use Rattle.layers.proofs.Laws.E8.{decode-in8, decode-under8}
 use Rattle.records.specs.Eight.Codes.{Digital, Coder, AreBlocks, AreCodes, block_size, whole_point}
 use Rattle.records.specs.Laws.Parts.{cut-more, cut-long, cut_at}
 

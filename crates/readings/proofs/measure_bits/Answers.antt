@@ -6,7 +6,7 @@ use mir.Syntax.{w32}
 use mir.Val.{SFits}
 use mir.Facts.{to_z-of_z}
 use Rattle.readings.specs.Taking.{measure_units}
-use Rattle.readings.specs.Laws.Patterns.{pattern-nan, pattern-far}
+use Rattle.readings.proofs.Laws.Patterns.{pattern-nan, pattern-far}
 use Rattle.readings.proofs.measure_bits.Goals as goal
 
 pub returns-then-size-gt-INFINITY : goal.returns-then-size-gt-INFINITY

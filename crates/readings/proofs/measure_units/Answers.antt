@@ -9,7 +9,7 @@ use Rattle.integers.specs.Laws.Difference.{by_d, ints, abs-D}
 use Rattle.integers.specs.Laws.Sizes.{lt_z-true, lt_z-false}
 use Rattle.readings.specs.Taking.{units_most}
 use Rattle.readings.specs.declared.Measured.TheVariants.{Units}
-use Rattle.readings.specs.Laws.Taking.{units-beyond, units-within}
+use Rattle.readings.proofs.Laws.Taking.{units-beyond, units-within}
 use Rattle.readings.proofs.measure_units.Goals as goal
 
 above : (X : ℤ) → pos 16777216 <ℤ X → units_most < nat_abs X

@@ -5,7 +5,7 @@ use lib.Ieee.{Float, binary32, sub}
 use mir.Facts.{to_z-of_z}
 use Rattle.readings.specs.Fractions.{fraction}
 use Rattle.readings.specs.declared.Reading.{Reading}
-use Rattle.readings.specs.Laws.Report.{report-subtracts}
+use Rattle.readings.proofs.Laws.Report.{report-subtracts}
 use Rattle.readings.proofs.report_reading.Goals as goal
 
 abbrev reading : Float → Float → Float → Reading

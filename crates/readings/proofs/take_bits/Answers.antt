@@ -2,7 +2,7 @@
 use borrow.Author.Rules.{rules}
 use mathlib.Core.Path.{sym, ◌∙◌, ap, subst}
 use Rattle.readings.specs.Taking.{taken_of, InRange}
-use Rattle.readings.specs.Laws.Taking.{float-in-range}
+use Rattle.readings.proofs.Laws.Taking.{float-in-range}
 use Rattle.readings.proofs.take_bits.Goals as goal
 
 pub taken_of-requires : goal.taken_of-requires

@@ -3,7 +3,7 @@ use borrow.Author.Rules.{rules}
 use mathlib.Core.Path.{sym, ◌∙◌, ap, subst}
 use mir.Facts.{to_z-of_z}
 use Rattle.readings.specs.Taking.{measure_units, taken_of, InRange}
-use Rattle.readings.specs.Laws.Taking.{units-in-range}
+use Rattle.readings.proofs.Laws.Taking.{units-in-range}
 use Rattle.readings.proofs.take_units.Goals as goal
 
 pub taken_of-requires : goal.taken_of-requires

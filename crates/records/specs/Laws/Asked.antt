@@ -16,7 +16,7 @@ use Rattle.blocks.specs.Limits.{UsedSteps}
 use Rattle.coding.specs.Answers.{check_below}
 use Rattle.layers.specs.Digits.{Below, cut}
 use Rattle.coding.specs.Laws.Asked.{checked-allowed, allowed-base, below-taken, below-accepted}
-use Rattle.layers.specs.Laws.Bases.{base-two}
+use Rattle.layers.proofs.Laws.Bases.{base-two}
 use Rattle.layers.specs.Code.{Code}
 use Rattle.records.specs.Codes.{Coder, CoderTaken, RecordTaken, IsBlock, AreBlocks, block_size, blocks_in, code_blocks, check_frame, check_block, check_blocks}
 use Rattle.records.specs.Laws.Codes.{block-opened}

@@ -9,7 +9,7 @@ use Rattle.integers.specs.Laws.Loops.{range-long, range_at}
 use Rattle.integers.specs.Vectors.{Bounded, range}
 use Rattle.readings.specs.declared.Measured.{Measured}
 use Rattle.readings.specs.declared.Measured.TheVariants as measured
-use Rattle.readings.specs.Laws.Taking.{units-in-range, units-same, float-in-range, float-missing}
+use Rattle.readings.proofs.Laws.Taking.{units-in-range, units-same, float-in-range, float-missing}
 use Rattle.readings.specs.Taking.{units_most, measure_units, InRange}
 use Rattle.readings.specs.Words.{word_at, measure_at}
 use Rattle.refusals.specs.declared.Refusal.TheVariants.{Size, Record}

@@ -4,7 +4,7 @@ use Rattle.std.proofs.Common.{sym, ◌∙◌, ap, ap₂, append-nil, append_asso
 use Rattle.std.proofs.lemmas.List.{map-append}
 use Rattle.integers.specs.Laws.Loops.{map_at, rest-whole}
 use Rattle.layers.specs.Digits.{joined, cut}
-use Rattle.layers.specs.Laws.Loops.{write-in}
+use Rattle.layers.proofs.Laws.Loops.{write-in}
 
 -- a part ends where the next begins, which is not past the last part's end
 pub part-ends : (n i k : ℕ) → i < k → n * i + n ≤ n * k

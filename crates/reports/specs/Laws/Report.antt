@@ -13,11 +13,11 @@ use Rattle.blocks.specs.Laws.Theorems.{block-digits, block-decodes}
 use Rattle.blocks.specs.Trials.{first_fitting, block_code}
 use Rattle.layers.specs.Digits.{IsCode}
 use Rattle.layers.specs.E8.{e8, nearest}
-use Rattle.layers.specs.Laws.Bases.{base-two}
-use Rattle.layers.specs.Laws.E8.{decode-in8, decode-times8}
+use Rattle.layers.proofs.Laws.Bases.{base-two}
+use Rattle.layers.proofs.Laws.E8.{decode-in8, decode-times8}
 use Rattle.readings.specs.declared.Reading.{Reading}
 use Rattle.readings.specs.Fractions.{Exactly}
-use Rattle.readings.specs.Laws.Report.{report-taken, report-decoded, report-difference}
+use Rattle.readings.proofs.Laws.Report.{report-taken, report-decoded, report-difference}
 use Rattle.readings.specs.Report.{Reportable, report_reading}
 use Rattle.readings.specs.Taking.{units_most, measure_units}
 use Rattle.refusals.specs.declared.settings.Settings.{Settings}

@@ -8,8 +8,8 @@ use Rattle.integers.specs.Vectors.{dot}
 use Rattle.layers.specs.Digits.{IsLayer, IsLayers, IsCode, cut}
 use Rattle.layers.specs.E8.{e8, nearest, layer_point8}
 use Rattle.layers.specs.Laws.Rows.{cut-layers}
-use Rattle.layers.specs.Laws.Splitting.{layer_point-in}
-use Rattle.layers.specs.Laws.Theorems.{decode-in}
+use Rattle.layers.proofs.Laws.Splitting.{layer_point-in}
+use Rattle.layers.proofs.Laws.Theorems.{decode-in}
 use Rattle.layers.specs.Laws.Weights.{dot-decode, dot-decodes}
 use Rattle.layers.specs.Layers.{decode}
 use Rattle.layers.specs.Sums.{layer_sum, pair_sum}

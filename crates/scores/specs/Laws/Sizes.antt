@@ -6,9 +6,9 @@ use Rattle.integers.specs.Laws.Sizes.{abs-mul-le}
 use Rattle.integers.specs.Laws.Sums.{dot-bound}
 use Rattle.integers.specs.Vectors.{dot, Sized}
 use Rattle.lattice.specs.Doubled.{E8}
-use Rattle.layers.specs.Laws.Bases.{base-two}
-use Rattle.layers.specs.Laws.E8.{decode-in8, decode-small8}
-use Rattle.layers.specs.Laws.Widths.{width-less}
+use Rattle.layers.proofs.Laws.Bases.{base-two}
+use Rattle.layers.proofs.Laws.E8.{decode-in8, decode-small8}
+use Rattle.layers.proofs.Laws.Widths.{width-less}
 use Rattle.layers.specs.Sizes.{width}
 use Rattle.records.specs.Eight.Codes.{Coder, IsBlock, step_of, whole_point}
 use Rattle.records.specs.Eight.Asked.{coder-positive}

@@ -7,7 +7,7 @@ use Rattle.integers.specs.Vectors.{«at»}
 use Rattle.lattice.specs.Basis.{point_of}
 use Rattle.columns.specs.Columns.{column}
 use Rattle.columns.specs.Narrow.{brief, scanned_from}
-use Rattle.layers.specs.Laws.Bases.{base-two}
+use Rattle.layers.proofs.Laws.Bases.{base-two}
 use Rattle.layers.specs.Sizes.{Base}
 use Rattle.rounding.specs.declared.half.Scan.{Scan}
 use Rattle.rounding.specs.Pass.{scanned, chosen}

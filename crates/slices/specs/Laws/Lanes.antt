@@ -12,12 +12,12 @@ use Rattle.columns.specs.Laws.Columns.{put-square, put-here, put_other, digit_po
 use Rattle.columns.specs.Laws.Narrow.{rounds-few, lefts-few, scan-part, part-slender}
 use Rattle.columns.specs.Narrow.{Few, Narrow, Part, Slender, scanned_from}
 use Rattle.layers.specs.Digits.{IsLayer, digits_of}
-use Rattle.layers.specs.Laws.Bases.{base-two, base-divisor}
+use Rattle.layers.proofs.Laws.Bases.{base-two, base-divisor}
 use Rattle.layers.specs.Laws.Entries.{digits_of-layer}
 use Rattle.layers.specs.Laws.Rows.{below_at}
 use Rattle.layers.specs.Sizes.{Base}
 use Rattle.rounding.specs.declared.half.Scan.{Scan}
-use Rattle.rounding.specs.Laws.Choice.{sign_small}
+use Rattle.rounding.proofs.Laws.Choice.{sign_small}
 use Rattle.slices.specs.Lanes.{lane_of, scan_of, Lane, LanePut, low_at, lane_at, high_at, scan_at, Lows}
 use Rattle.slices.specs.Laws.Merging.{part-merge}
 use Rattle.slices.specs.Slices.{rounds_of, rests_of, merge}

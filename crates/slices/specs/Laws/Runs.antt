@@ -6,7 +6,7 @@ use borrow.Rule.Slice.PartMut.{put_mid}
 use Rattle.integers.specs.Laws.Loops.{range_at}
 use Rattle.integers.specs.Vectors.{«at», dot, range}
 use Rattle.columns.specs.Narrow.{left_by}
-use Rattle.layers.specs.Laws.Bases.{base-two}
+use Rattle.layers.proofs.Laws.Bases.{base-two}
 use Rattle.rounding.specs.Rounding.{lowered}
 use Rattle.slices.specs.Slices.{Sizes, Dots, choice_by, point_by}
 use Rattle.slices.specs.Sums.{even_at, odd_at, mend_at, Paired, run_at}

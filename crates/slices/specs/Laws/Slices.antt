@@ -10,10 +10,10 @@ use Rattle.columns.specs.Narrow.{left_by}
 use Rattle.lattice.specs.Basis.{point_of}
 use Rattle.layers.specs.Digits.{IsLayer, digits_of}
 use Rattle.layers.specs.E8.{layer_point8}
-use Rattle.layers.specs.Laws.Bases.{base-two, base-divisor}
+use Rattle.layers.proofs.Laws.Bases.{base-two, base-divisor}
 use Rattle.layers.specs.Laws.Entries.{pow-two, digits_of-layer}
 use Rattle.layers.specs.Sizes.{Base}
-use Rattle.rounding.specs.Laws.Reciprocals.{twice-pos}
+use Rattle.rounding.proofs.Laws.Reciprocals.{twice-pos}
 use Rattle.rounding.specs.Rounding.{left}
 use Rattle.slices.specs.Lanes.{low_at, high_at}
 use Rattle.slices.specs.Laws.Codes.{coded-below, chosen-coded, choice_by-code}

@@ -12,7 +12,7 @@ use Rattle.integers.specs.Laws.Sizes.{abs-mul-le}
 use Rattle.integers.specs.Laws.Sums.{at-zeros, length-zeros, dot-bound, sized-map}
 use Rattle.integers.specs.Vectors.{«at», zeros, dot, Bounded, Sized, range}
 use Rattle.columns.specs.Narrow.{left_by}
-use Rattle.rounding.specs.Laws.Lowered.{lowered-small}
+use Rattle.rounding.proofs.Laws.Lowered.{lowered-small}
 use Rattle.rounding.specs.Rounding.{sign, lowered}
 use Rattle.slices.specs.Slices.{choice_by}
 use Rattle.slices.specs.Sums.{mend_at, Paired}

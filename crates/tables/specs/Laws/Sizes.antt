@@ -7,8 +7,8 @@ use Rattle.lattice.specs.Doubled.{E8}
 use Rattle.layers.specs.Digits.{digits_of}
 use Rattle.layers.specs.E8.{e8, nearest}
 use Rattle.layers.specs.Laws.Entries.{digits_of-layer}
-use Rattle.layers.specs.Laws.Splitting.{layer_point-in}
-use Rattle.layers.specs.Laws.Widths.{layer_point-small}
+use Rattle.layers.proofs.Laws.Splitting.{layer_point-in}
+use Rattle.layers.proofs.Laws.Widths.{layer_point-small}
 use Rattle.scores.specs.Laws.Inner.{inner-size}
 use Rattle.scores.specs.Laws.Sizes.{dot-sized}
 use Rattle.scores.specs.Scores.{inner}

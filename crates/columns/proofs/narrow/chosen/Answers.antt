@@ -16,7 +16,7 @@ use Rattle.rounding.specs.declared.half.Mend.{Mend}
 use Rattle.rounding.specs.declared.half.Scan.{Scan}
 use Rattle.lattice.specs.Doubled.{par}
 use Rattle.columns.specs.Laws.Narrow.{mended-slight, brief-choose}
-use Rattle.rounding.specs.Laws.Reciprocals.{twice-pos}
+use Rattle.rounding.proofs.Laws.Reciprocals.{twice-pos}
 use Rattle.columns.specs.Narrow.{Slight, wide, wide_mend, brief}
 use Rattle.rounding.specs.Pass.{mended, lead, even_mend, odd_mend, choose, chosen}
 use Rattle.columns.proofs.narrow.chosen.Goals as goal

@@ -11,7 +11,7 @@ use mir.Val.{SFits}
 use mir.Facts.{to_z-of_z}
 use Rattle.integers.specs.Laws.Sizes.{abs-add, abs-mul, fits-mag}
 use Rattle.rounding.specs.declared.half.Mend.{Mend}
-use Rattle.rounding.specs.Laws.Choice.{first_small, apart-bound, lead-bound}
+use Rattle.rounding.proofs.Laws.Choice.{first_small, apart-bound, lead-bound}
 use Rattle.columns.specs.Narrow.{wide_mend}
 use Rattle.rounding.specs.Pass.{first, lead}
 use Rattle.columns.proofs.narrow.lead.Goals as goal

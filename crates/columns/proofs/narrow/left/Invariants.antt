@@ -15,7 +15,7 @@ use Rattle.integers.specs.Laws.Loops.{Filled, filled_more, filled-all, range_at}
 use Rattle.integers.specs.Laws.Sizes.{abs-add, abs-sub, abs-mul-le, fits-mag}
 use Rattle.integers.specs.Vectors.{«at», range}
 use Rattle.columns.specs.declared.narrow.Choice.{Choice}
-use Rattle.rounding.specs.Laws.Choice.{sign_small}
+use Rattle.rounding.proofs.Laws.Choice.{sign_small}
 use Rattle.columns.specs.Narrow.{left_at}
 use Rattle.rounding.specs.Rounding.{sign}
 use Rattle.columns.proofs.narrow.left.Given as goal

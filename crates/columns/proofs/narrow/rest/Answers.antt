@@ -15,10 +15,10 @@ use Rattle.integers.specs.Vectors.{«at», Sized}
 use Rattle.rounding.specs.declared.half.Scan.{Scan}
 use Rattle.columns.specs.declared.narrow.Choice as choices
 use Rattle.rounding.specs.declared.point.Choice.{Choice}
-use Rattle.rounding.specs.Laws.Choice.{sign_small, chosen-small}
+use Rattle.rounding.proofs.Laws.Choice.{sign_small, chosen-small}
 use Rattle.columns.specs.Laws.Narrow.{few-divisor, narrow-few, rounds-few, lefts-few, scan-part, part-slender, from_first, rest-code}
-use Rattle.rounding.specs.Laws.Reciprocals.{twice-pos}
-use Rattle.rounding.specs.Laws.Scans.{scan-ranged}
+use Rattle.rounding.proofs.Laws.Reciprocals.{twice-pos}
+use Rattle.rounding.proofs.Laws.Scans.{scan-ranged}
 use Rattle.columns.specs.Narrow.{Few, Slender, wide, brief, left_by}
 use Rattle.rounding.specs.Pass.{scanned, chosen}
 use Rattle.rounding.specs.Rounding.{round, left, sign}

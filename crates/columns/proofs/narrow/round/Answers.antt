@@ -10,7 +10,7 @@ use mir.Syntax.{w16}
 use mir.Val.{SFits}
 use mir.Facts.{to_z-of_z}
 use Rattle.integers.specs.Laws.Sizes.{abs-add, abs-sub, abs-mul, fits-mag}
-use Rattle.rounding.specs.Laws.Choice.{bit-small}
+use Rattle.rounding.proofs.Laws.Choice.{bit-small}
 use Rattle.columns.specs.Laws.Narrow.{round-three}
 use Rattle.rounding.specs.Rounding.{round}
 use Rattle.columns.proofs.narrow.round.Goals as goal

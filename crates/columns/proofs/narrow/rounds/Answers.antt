@@ -10,7 +10,7 @@ use Rattle.integers.specs.Laws.Loops.{Filled, filled_more, filled-all}
 use Rattle.integers.specs.Laws.Sizes.{abs-mul, abs-mul-le, fits-mag}
 use Rattle.integers.specs.Vectors.{«at»}
 use Rattle.columns.specs.Laws.Narrow.{few-divisor, narrow-few, narrow-near, near-small, round-few}
-use Rattle.rounding.specs.Laws.Reciprocals.{left-small}
+use Rattle.rounding.proofs.Laws.Reciprocals.{left-small}
 use Rattle.columns.specs.Narrow.{Few, Near}
 use Rattle.rounding.specs.Rounding.{round, left}
 use Rattle.columns.proofs.narrow.rounds.Goals as goal

@@ -11,7 +11,7 @@ use Rattle.integers.specs.Laws.Sizes.{abs-add, abs-mul-le, fits-mag}
 use Rattle.integers.specs.Vectors.{square}
 use Rattle.rounding.specs.declared.half.Scan.{Scan}
 use Rattle.rounding.specs.Laws.Keys.{key-small}
-use Rattle.rounding.specs.Laws.Lowered.{lowered-small}
+use Rattle.rounding.proofs.Laws.Lowered.{lowered-small}
 use Rattle.columns.specs.Narrow.{wide}
 use Rattle.rounding.specs.Rounding.{lowered, key}
 use Rattle.columns.proofs.narrow.seen.Goals as goal

@@ -4,7 +4,7 @@ use Prim.Native.Nat.{ℕ}
 use native.Mathlib.Omega.{arith}
 use borrow.Author.Rules.{rules}
 use lib.Ieee.{Float, of_bits}
-use Rattle.readings.specs.Laws.Exact.{fraction-zero}
+use Rattle.readings.proofs.Laws.Exact.{fraction-zero}
 use Rattle.enkhovrag.specs.declared.answers.EkTaken.{EkTaken}
 use Rattle.enkhovrag.specs.Answers.{taken_out}
 use Rattle.enkhovrag.proofs.answers.taken_out.Goals as goal

@@ -16,10 +16,10 @@ use Rattle.integers.specs.Vectors.{Sized}
 use Rattle.lattice.specs.Computed.{nearest_point}
 use Rattle.layers.specs.E8.{e8, nearest, digits8, leftover8}
 use Rattle.layers.specs.Layers.{layer_digits}
-use Rattle.layers.specs.Laws.Bases.{base-is, base-two, base-divisor}
-use Rattle.layers.specs.Laws.E8.{digits8-long}
-use Rattle.layers.specs.Laws.Loops.{leftover-next, digits-next, write-part}
-use Rattle.layers.specs.Laws.Widths.{leftover-stays}
+use Rattle.layers.proofs.Laws.Bases.{base-is, base-two, base-divisor}
+use Rattle.layers.proofs.Laws.E8.{digits8-long}
+use Rattle.layers.proofs.Laws.Loops.{leftover-next, digits-next, write-part}
+use Rattle.layers.proofs.Laws.Widths.{leftover-stays}
 use Rattle.layers.proofs.digits.digits.Goals as goal
 use Rattle.layers.proofs.digits.digits.Goals.{After-layer_digits, At-loop-i, Start}
 

@@ -10,7 +10,7 @@ use mir.Facts.{to_z-of_z}
 use Rattle.integers.specs.Laws.Sums.{sized-more}
 use Rattle.integers.specs.Vectors.{Sized}
 use Rattle.lattice.specs.Basis.{coefficients}
-use Rattle.layers.specs.Laws.Bases.{coefficients-sized}
+use Rattle.layers.proofs.Laws.Bases.{coefficients-sized}
 use Rattle.layers.specs.Layers.{remainders, layer_digits}
 use Rattle.layers.proofs.digits.layer_digits.Goals as goal
 

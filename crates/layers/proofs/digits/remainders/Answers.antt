@@ -11,7 +11,7 @@ use mir.Val.{SFits, to_z}
 use mir.Facts.{to_z-of_z}
 use Rattle.integers.specs.Floor.{floor_mod}
 use Rattle.layers.specs.Layers.{remainders}
-use Rattle.layers.specs.Laws.Loops.{write-next}
+use Rattle.layers.proofs.Laws.Loops.{write-next}
 use Rattle.layers.proofs.digits.remainders.Goals as goal
 use Rattle.layers.proofs.digits.remainders.Goals.{After-remainder, At-loop-k, Start}
 

@@ -8,7 +8,7 @@ use lib.IntN.{ℤ}
 use lib.ListN.{length, take, drop, length-take, length-drop}
 use Rattle.layers.specs.Digits.{entry_of}
 use Rattle.layers.specs.Laws.Entries.{entry_of-less}
-use Rattle.layers.specs.Laws.Table.{table-long, table-row}
+use Rattle.layers.proofs.Laws.Table.{table-long, table-row}
 use Rattle.layers.proofs.lookup.table_point.Goals as goal
 use Rattle.layers.proofs.lookup.table_point.Goals.{Start}
 use Rattle.layers.proofs.lookup.table_point.Lts as lts

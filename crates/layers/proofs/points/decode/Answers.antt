@@ -11,8 +11,8 @@ use mir.Facts.{to_z-of_z}
 use Rattle.integers.specs.Vectors.{add_v, scale_v, Sized}
 use Rattle.layers.specs.Digits.{IsLayer, IsCode}
 use Rattle.layers.specs.E8.{e8, nearest, layer_point8, decode8}
-use Rattle.layers.specs.Laws.Bases.{base-is, layer_point8-sized, decode8-sized}
-use Rattle.layers.specs.Laws.Loops.{code-layer, decode-down}
+use Rattle.layers.proofs.Laws.Bases.{base-is, layer_point8-sized, decode8-sized}
+use Rattle.layers.proofs.Laws.Loops.{code-layer, decode-down}
 use Rattle.layers.specs.Sizes.{Base, long_power}
 use Rattle.layers.proofs.points.decode.Goals as goal
 

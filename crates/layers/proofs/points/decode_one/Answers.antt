@@ -6,7 +6,7 @@ use mir.Syntax.{w64}
 use mir.Val.{of_z}
 use mir.Facts.{to_z-of_z}
 use Rattle.layers.specs.E8.{decode8}
-use Rattle.layers.specs.Laws.Bases.{base-is}
+use Rattle.layers.proofs.Laws.Bases.{base-is}
 use Rattle.layers.proofs.points.decode_one.Goals as goal
 
 pub decode-requires-else-q-eq2 : goal.decode-requires-else-q-eq2

@@ -12,7 +12,7 @@ use Rattle.integers.specs.Laws.Sizes.{fits_sub, abs-sub}
 use Rattle.integers.specs.Vectors.{add_v, scale_v, Sized}
 use Rattle.lattice.specs.Basis.{point_of}
 use Rattle.lattice.specs.Computed.{nearest_point}
-use Rattle.layers.specs.Laws.Bases.{base-divisor, digits-sized, digit_point-sized, nearest_point-sized, layer_point8-is}
+use Rattle.layers.proofs.Laws.Bases.{base-divisor, digits-sized, digit_point-sized, nearest_point-sized, layer_point8-is}
 use Rattle.integers.specs.Laws.Sums.{sized-more}
 use Rattle.layers.specs.Digits.{IsLayer}
 use Rattle.layers.specs.Sizes.{Base}

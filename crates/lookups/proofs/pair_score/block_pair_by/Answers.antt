@@ -12,7 +12,7 @@ use Rattle.integers.specs.Laws.Loops.{rest-whole}
 use Rattle.integers.specs.Laws.Sizes.{fits-abs, fits-mul, abs-mul-le}
 use Rattle.integers.specs.Vectors.{«at»}
 use Rattle.layers.specs.Digits.{Below, IsLayer, IsLayers, IsCode, cut, entry_of}
-use Rattle.layers.specs.Laws.Loops.{code-layer}
+use Rattle.layers.proofs.Laws.Loops.{code-layer}
 use Rattle.layers.specs.Laws.Rows.{cut-layers}
 use Rattle.records.specs.Eight.Codes.{step_of}
 use Rattle.scores.specs.Laws.Sizes.{step_small}

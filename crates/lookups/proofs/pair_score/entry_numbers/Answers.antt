@@ -5,7 +5,7 @@ use Prim.Native.Nat.{ℕ, ◌+◌, ◌*◌, ◌-◌, ◌≤◌}
 use native.Mathlib.Omega.{arith}
 use lib.ListN.{length, take, drop, set, length-set}
 use Rattle.layers.specs.Digits.{IsLayer, cut, entry_of}
-use Rattle.layers.specs.Laws.Loops.{code-layer}
+use Rattle.layers.proofs.Laws.Loops.{code-layer}
 use Rattle.lookups.specs.Laws.Rows.{entries-more}
 use Rattle.lookups.proofs.pair_score.entry_numbers.Goals as goal
 use Rattle.lookups.proofs.pair_score.entry_numbers.Goals.{At-loop-i, In-loop-i, Start}

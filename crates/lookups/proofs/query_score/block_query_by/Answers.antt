@@ -13,8 +13,8 @@ use mir.Facts.{to_z-of_z, sfits_widen}
 use Rattle.integers.specs.Laws.Sizes.{fits-abs, fits-mul, abs-mul-le}
 use Rattle.integers.specs.Vectors.{«at»}
 use Rattle.layers.specs.Digits.{IsLayer, cut, entry_of}
-use Rattle.layers.specs.Laws.Bases.{base-is, base-two}
-use Rattle.layers.specs.Laws.Loops.{code-layer}
+use Rattle.layers.proofs.Laws.Bases.{base-is, base-two}
+use Rattle.layers.proofs.Laws.Loops.{code-layer}
 use Rattle.scores.specs.Laws.Sizes.{step_small}
 use Rattle.tables.specs.Laws.Entries.{entry-within, part-most, block-layer}
 use Rattle.lookups.specs.Laws.Sums.{Summed, summed-none, summed-more, summed-most, summed-all, terms, terms-long, terms-at, layer-power, read_small}

@@ -8,7 +8,7 @@ use mir.Syntax.{w64}
 use mir.Val.{SFits, to_z, of_z}
 use mir.Facts.{to_z-of_z}
 use Rattle.layers.specs.Digits.{cut}
-use Rattle.layers.specs.Laws.Bases.{base-is, base-two}
+use Rattle.layers.proofs.Laws.Bases.{base-is, base-two}
 use Rattle.records.specs.Eight.Codes.{Coder, AreBlocks, block_size}
 use Rattle.scores.specs.Scores.{total}
 use Rattle.tables.specs.Tables.{query_most, part_size}

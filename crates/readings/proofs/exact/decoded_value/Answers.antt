@@ -7,7 +7,7 @@ use mir.Syntax.{w64}
 use mir.Val.{SFits}
 use mir.Facts.{to_z-of_z}
 use Rattle.integers.specs.Laws.Sizes.{fits-abs}
-use Rattle.readings.specs.Laws.Exact.{castable, cast-divided}
+use Rattle.readings.proofs.Laws.Exact.{castable, cast-divided}
 use Rattle.readings.proofs.exact.decoded_value.Goals as goal
 use Rattle.readings.proofs.exact.decoded_value.Goals.{Start}
 

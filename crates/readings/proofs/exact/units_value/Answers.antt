@@ -2,7 +2,7 @@
 use mathlib.Core.Path.{refl}
 use lib.Ieee.{of_bits}
 use mir.Facts.{to_z-of_z}
-use Rattle.readings.specs.Laws.Exact.{castable, cast-divided}
+use Rattle.readings.proofs.Laws.Exact.{castable, cast-divided}
 use Rattle.readings.proofs.exact.units_value.Goals as goal
 
 pub int_to_float-result : goal.int_to_float-result

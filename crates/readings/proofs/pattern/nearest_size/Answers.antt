@@ -8,7 +8,7 @@ use native.Mathlib.Numerals.{add-one}
 use native.Mathlib.Omega.{arith}
 use lib.Dec.{lit<}
 use lib.Pow.{pow_pos, pow_mono, shl_exact}
-use Rattle.readings.specs.Laws.Nearest.{nearest-signed}
+use Rattle.readings.proofs.Laws.Nearest.{nearest-signed}
 use Rattle.readings.proofs.pattern.nearest_size.Goals as goal
 use Rattle.readings.proofs.pattern.nearest_size.Goals.{Start}
 

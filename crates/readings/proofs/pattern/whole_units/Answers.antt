@@ -7,7 +7,7 @@ use mir.Syntax.{w32}
 use mir.Val.{SFits}
 use mir.Facts.{to_z-of_z}
 use Rattle.readings.specs.Taking.{measure_units}
-use Rattle.readings.specs.Laws.Patterns.{pattern-small, pattern-shifted}
+use Rattle.readings.proofs.Laws.Patterns.{pattern-small, pattern-shifted}
 use Rattle.readings.proofs.pattern.whole_units.Goals as goal
 
 pub returns-then-exponent-lt116 : goal.returns-then-exponent-lt116

@@ -8,7 +8,7 @@ use lib.Ieee.{Float, binary32, to_bits, is_nan}
 use mir.Facts.{to_z-of_z}
 use Rattle.readings.specs.Fractions.{fraction}
 use Rattle.readings.specs.Words.{put_word}
-use Rattle.readings.specs.Laws.Exact.{fraction-exact, exactly-number}
+use Rattle.readings.proofs.Laws.Exact.{fraction-exact, exactly-number}
 use Rattle.readings.proofs.words.put_decoded.Goals as goal
 use Rattle.readings.proofs.words.put_decoded.Goals.{After-decoded_value, Start}
 

@@ -8,7 +8,7 @@ use mir.Facts.{to_z-of_z}
 use Rattle.integers.specs.Laws.Floors.{abs-pos}
 use Rattle.integers.specs.Laws.Signed.{<ℤ-weak}
 use Rattle.integers.specs.Laws.Sizes.{fits-abs}
-use Rattle.rounding.specs.Laws.Reciprocals.{twice-pos, reciprocal-small}
+use Rattle.rounding.proofs.Laws.Reciprocals.{twice-pos, reciprocal-small}
 use Rattle.rounding.specs.Rounding.{reciprocal}
 use Rattle.rounding.proofs.coordinate.reciprocal.Goals as goal
 use Rattle.rounding.proofs.coordinate.reciprocal.Goals.{Start}

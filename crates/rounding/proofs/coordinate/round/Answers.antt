@@ -8,7 +8,7 @@ use mir.Syntax.{w64}
 use mir.Val.{SFits}
 use mir.Facts.{to_z-of_z}
 use Rattle.integers.specs.Laws.Sizes.{abs-mul-le, fits-abs, fits-add, fits_sub, fits-mul, lt_z-true, lt_z-false}
-use Rattle.rounding.specs.Laws.Reciprocals.{left-small, round-small, reciprocal-small, y-small, mq-small, code-next, code-right}
+use Rattle.rounding.proofs.Laws.Reciprocals.{left-small, round-small, reciprocal-small, y-small, mq-small, code-next, code-right}
 use Rattle.rounding.specs.Rounding.{round, left}
 use Rattle.rounding.proofs.coordinate.round.Goals as goal
 use Rattle.rounding.proofs.coordinate.round.Goals.{Start, Then-r-s}

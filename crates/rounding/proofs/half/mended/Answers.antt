@@ -10,7 +10,7 @@ use mir.Syntax.{w64}
 use mir.Val.{SFits}
 use mir.Facts.{to_z-of_z}
 use Rattle.integers.specs.Laws.Sizes.{fits-abs}
-use Rattle.rounding.specs.Laws.Choice.{four-small, less-small, mend-small}
+use Rattle.rounding.proofs.Laws.Choice.{four-small, less-small, mend-small}
 use Rattle.rounding.specs.Pass.{mended}
 use Rattle.rounding.proofs.half.mended.Goals as goal
 use Rattle.rounding.proofs.half.mended.Goals.{After-either, Start}

@@ -11,7 +11,7 @@ use mir.Facts.{to_z-of_z}
 use Rattle.integers.specs.Laws.Sizes.{fits-abs}
 use Rattle.integers.specs.Vectors.{«at»}
 use Rattle.rounding.specs.declared.half.Scan.{Scan}
-use Rattle.rounding.specs.Laws.Scans.{scan-light}
+use Rattle.rounding.proofs.Laws.Scans.{scan-light}
 use Rattle.rounding.specs.Pass.{Light, seen, scanned}
 use Rattle.rounding.proofs.half.scanned.Given as goal
 

@@ -11,7 +11,7 @@ use Rattle.integers.specs.Laws.Sizes.{abs-mul-le, fits-abs, fits-add, fits-mul}
 use Rattle.integers.specs.Vectors.{square}
 use Rattle.rounding.specs.declared.half.Scan.{Scan}
 use Rattle.rounding.specs.Laws.Keys.{key-small}
-use Rattle.rounding.specs.Laws.Lowered.{lowered-small}
+use Rattle.rounding.proofs.Laws.Lowered.{lowered-small}
 use Rattle.rounding.specs.Rounding.{lowered, key}
 use Rattle.rounding.proofs.half.seen.Goals as goal
 use Rattle.rounding.proofs.half.seen.Goals.{After-lowered-b, After-smaller, Start}

@@ -7,7 +7,7 @@ use mir.Syntax.{w64}
 use mir.Val.{SFits}
 use mir.Facts.{to_z-of_z}
 use Rattle.integers.specs.Laws.Sizes.{fits-abs, fits_sub}
-use Rattle.rounding.specs.Laws.Choice.{sign-shift, parity-small}
+use Rattle.rounding.proofs.Laws.Choice.{sign-shift, parity-small}
 use Rattle.rounding.proofs.point.behind.Goals as goal
 use Rattle.rounding.proofs.point.behind.Goals.{Start}
 

@@ -15,8 +15,8 @@ use Rattle.integers.specs.Laws.Sizes.{fits-abs, fits-add}
 use Rattle.rounding.specs.declared.half.Mend.{Mend}
 use Rattle.rounding.specs.declared.half.Scan.{Scan}
 use Rattle.lattice.specs.Doubled.{par}
-use Rattle.rounding.specs.Laws.Choice.{mended-small, lead-small}
-use Rattle.rounding.specs.Laws.Reciprocals.{twice-pos}
+use Rattle.rounding.proofs.Laws.Choice.{mended-small, lead-small}
+use Rattle.rounding.proofs.Laws.Reciprocals.{twice-pos}
 use Rattle.rounding.specs.Pass.{Small, mended, lead, even_mend, odd_mend, choose, chosen}
 use Rattle.rounding.proofs.point.chosen.Goals as goal
 use Rattle.rounding.proofs.point.chosen.Goals.{After-behind-parity, After-lead-v, Start}

@@ -10,7 +10,7 @@ use mir.Val.{SFits}
 use mir.Facts.{to_z-of_z}
 use Rattle.integers.specs.Laws.Sizes.{abs-mul, fits-abs, fits-add}
 use Rattle.rounding.specs.declared.half.Mend.{Mend}
-use Rattle.rounding.specs.Laws.Choice.{first_small, apart-small, lead-small}
+use Rattle.rounding.proofs.Laws.Choice.{first_small, apart-small, lead-small}
 use Rattle.rounding.specs.Pass.{first, lead}
 use Rattle.rounding.proofs.point.lead.Goals as goal
 use Rattle.rounding.proofs.point.lead.Goals.{After-either, After-first-2, Start}

@@ -13,10 +13,10 @@ use Rattle.integers.specs.Laws.Sizes.{fits-abs, fits-add}
 use Rattle.integers.specs.Laws.Sums.{sized-more}
 use Rattle.integers.specs.Vectors.{«at», Sized}
 use Rattle.rounding.specs.declared.point.Choice.{Choice}
-use Rattle.rounding.specs.Laws.Choice.{sign_small, spread-small, chosen-small, nearest_point-code}
-use Rattle.rounding.specs.Laws.Mended.{rounds-sized, lefts-sized}
-use Rattle.rounding.specs.Laws.Reciprocals.{twice-pos}
-use Rattle.rounding.specs.Laws.Scans.{scan-ranged}
+use Rattle.rounding.proofs.Laws.Choice.{sign_small, spread-small, chosen-small, nearest_point-code}
+use Rattle.rounding.proofs.Laws.Mended.{rounds-sized, lefts-sized}
+use Rattle.rounding.proofs.Laws.Reciprocals.{twice-pos}
+use Rattle.rounding.proofs.Laws.Scans.{scan-ranged}
 use Rattle.rounding.specs.Pass.{Ranged, scanned, chosen, spread_by}
 use Rattle.rounding.specs.Rounding.{round, left, sign, reciprocal}
 use Rattle.rounding.proofs.point.nearest_point.Goals as goal

@@ -12,7 +12,7 @@ use mir.Facts.{to_z-of_z}
 use Rattle.integers.specs.Laws.Loops.{Filled, filled_more, filled-all, range_at}
 use Rattle.integers.specs.Laws.Sizes.{abs-mul, abs-mul-le, fits-abs, fits-add, fits-mul}
 use Rattle.integers.specs.Vectors.{«at», range}
-use Rattle.rounding.specs.Laws.Choice.{sign_small}
+use Rattle.rounding.proofs.Laws.Choice.{sign_small}
 use Rattle.rounding.specs.Rounding.{sign}
 use Rattle.rounding.proofs.point.spread.Goals as goal
 use Rattle.rounding.proofs.point.spread.Goals.{After-sign, In-loop-i, Start}

@@ -6,7 +6,7 @@ use mir.Syntax.{w64}
 use mir.Val.{SFits, of_z}
 use mir.Facts.{to_z-of_z}
 use Rattle.layers.specs.Digits.{cut}
-use Rattle.layers.specs.Laws.Bases.{base-is}
+use Rattle.layers.proofs.Laws.Bases.{base-is}
 use Rattle.records.specs.Eight.Codes.{block_size}
 use Rattle.scores.specs.Eight.Scores.{total, block_pair}
 use Rattle.scores.proofs.pair.pair_body.Goals as goal

@@ -9,7 +9,7 @@ use mir.Syntax.{w64}
 use mir.Val.{SFits, to_z, of_z}
 use mir.Facts.{to_z-of_z}
 use Rattle.layers.specs.Digits.{cut}
-use Rattle.layers.specs.Laws.Bases.{base-is}
+use Rattle.layers.proofs.Laws.Bases.{base-is}
 use Rattle.records.specs.Eight.Codes.{block_size, whole_point}
 use Rattle.scores.proofs.query.query_total.Goals as goal
 use Rattle.scores.proofs.query.query_total.Goals.{Else-q-eq2, Start, Then-q-eq2}

@@ -17,7 +17,7 @@ use Rattle.integers.specs.Laws.Sums.{sized-more}
 use Rattle.integers.specs.Vectors.{«at», Sized}
 use Rattle.columns.specs.Narrow.{Few, Part, wide, scanned_from}
 use Rattle.layers.specs.Digits.{IsLayer, digits_of}
-use Rattle.layers.specs.Laws.Bases.{base-two}
+use Rattle.layers.proofs.Laws.Bases.{base-two}
 use Rattle.layers.specs.Laws.Entries.{digits_of-layer, squared}
 use Rattle.rounding.specs.declared.half.Scan.{Scan}
 use Rattle.coding.specs.Counting.{counted_up}

@@ -9,7 +9,7 @@ use Rattle.lattice.specs.Basis.{point_of}
 use Rattle.columns.specs.Laws.Columns.{digit_point-narrow}
 use Rattle.columns.specs.Narrow.{Narrow}
 use Rattle.layers.specs.Digits.{IsLayer}
-use Rattle.layers.specs.Laws.Bases.{digits-sized}
+use Rattle.layers.proofs.Laws.Bases.{digits-sized}
 use Rattle.layers.specs.Laws.Rows.{below_more}
 use Rattle.rounding.specs.Rounding.{round, left}
 use Rattle.slices.proofs.choices.round_digits.Goals as goal

@@ -18,7 +18,7 @@ use Rattle.integers.specs.Laws.Signed.{≤ℤ-trans}
 use Rattle.integers.specs.Laws.Sizes.{fits-mag}
 use Rattle.integers.specs.Laws.Sums.{bounded-take, bounded-drop}
 use Rattle.columns.specs.Narrow.{Few}
-use Rattle.layers.specs.Laws.Bases.{base-two, base-divisor}
+use Rattle.layers.proofs.Laws.Bases.{base-two, base-divisor}
 use Rattle.rounding.specs.Rounding.{lowered}
 use Rattle.slices.specs.Slices.{Sizes, point_by}
 use Rattle.slices.specs.Sums.{even_at, odd_at, mend_at, Paired, Run, run_at}

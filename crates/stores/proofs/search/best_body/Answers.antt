@@ -5,7 +5,7 @@ use lib.IntN.{ℤ, pos, nat_abs}
 use mir.Syntax.{w64}
 use mir.Val.{of_z}
 use mir.Facts.{to_z-of_z}
-use Rattle.layers.specs.Laws.Bases.{base-is}
+use Rattle.layers.proofs.Laws.Bases.{base-is}
 use Rattle.stores.specs.declared.Best.{Best}
 use Rattle.stores.specs.Stores.{best_in}
 use Rattle.stores.proofs.search.best_body.Goals as goal

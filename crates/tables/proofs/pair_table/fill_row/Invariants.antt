@@ -15,7 +15,7 @@ use Rattle.integers.specs.Vectors.{Sized}
 use Rattle.layers.specs.Digits.{IsLayer, entry_of, digits_of}
 use Rattle.layers.specs.E8.{layer_point8}
 use Rattle.layers.specs.Laws.Entries.{digits_of-layer}
-use Rattle.layers.specs.Laws.Loops.{write-next}
+use Rattle.layers.proofs.Laws.Loops.{write-next}
 use Rattle.scores.specs.Scores.{inner}
 use Rattle.coding.specs.Laws.Counting.{digits-zero, counted_next}
 use Rattle.tables.specs.Laws.Entries.{layer_at-entry, pair_row-long, pair_row-at}

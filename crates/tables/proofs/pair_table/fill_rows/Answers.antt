@@ -10,7 +10,7 @@ use lib.ListN.{length, take, drop, length-take, length-drop}
 use Rattle.layers.specs.Digits.{IsLayer, digits_of}
 use Rattle.layers.specs.E8.{layer_point8}
 use Rattle.layers.specs.Laws.Entries.{digits_of-layer}
-use Rattle.layers.specs.Laws.Loops.{write-in}
+use Rattle.layers.proofs.Laws.Loops.{write-in}
 use Rattle.records.specs.Laws.Parts.{front_long}
 use Rattle.coding.specs.Laws.Counting.{digits-zero, counted_next}
 use Rattle.tables.specs.Laws.Entries.{pair_rows, rows_more, rows_all}

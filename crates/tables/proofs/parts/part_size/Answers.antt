@@ -7,7 +7,7 @@ use lib.Dec.{T}
 use lib.IntN.{ℤ, nat_abs}
 use lib.Signed.{non_neg}
 use mir.Facts.{to_z-of_z}
-use Rattle.layers.specs.Laws.Bases.{base-is}
+use Rattle.layers.proofs.Laws.Bases.{base-is}
 use Rattle.layers.specs.Laws.Entries.{squared}
 use Rattle.tables.specs.Laws.Entries.{part-most, part-squares}
 use Rattle.tables.proofs.parts.part_size.Goals as goal

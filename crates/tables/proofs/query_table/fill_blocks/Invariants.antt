@@ -14,7 +14,7 @@ use mir.Facts.{to_z-of_z}
 use Rattle.integers.specs.Laws.Sizes.{fits-mag}
 use Rattle.integers.specs.Vectors.{Sized}
 use Rattle.layers.specs.Sizes.{Base}
-use Rattle.layers.specs.Laws.Bases.{base-is, base-two}
+use Rattle.layers.proofs.Laws.Bases.{base-is, base-two}
 use Rattle.records.specs.Laws.Parts.{part-ends}
 use Rattle.slices.specs.Laws.Slices.{point_by-is, slice-sizes}
 use Rattle.slices.specs.Slices.{Slice, Sizes, point_by}

@@ -11,7 +11,7 @@ use Rattle.integers.specs.Laws.Floors.{floor_div-shr, by_pos}
 use Rattle.integers.specs.Laws.Reciprocals.{guess as guess-at, guess-ok as guess-at-ok}
 use Rattle.integers.specs.Laws.Signed.{slack<, trichotomy}
 use Rattle.integers.specs.Laws.Sizes.{abs-add, abs-sub, abs-mul, abs-from, abs-times}
-use Rattle.rounding.specs.Laws.Rounds.{round-rest}
+use Rattle.rounding.proofs.Laws.Rounds.{round-rest}
 use Rattle.rounding.specs.Rounding.{round, left, Divisor, reciprocal}
 
 pub twice : (s : ℤ) → s +ℤ s ≡ pos 2 *ℤ s

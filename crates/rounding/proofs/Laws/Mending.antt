@@ -14,7 +14,7 @@ use Rattle.lattice.specs.Doubled.{par}
 use Rattle.lattice.specs.Laws.Dn.{Summed, Split, join, part, cons-least, one-least}
 use Rattle.lattice.specs.Laws.Least.{Least, Tests, least-left, least-right}
 use Rattle.lattice.specs.Laws.Parity.{par-add, Mid}
-use Rattle.rounding.specs.Laws.Rounds.{rounds-least, turn-cases, round-is-mid, turn-is-mid}
+use Rattle.rounding.proofs.Laws.Rounds.{rounds-least, turn-cases, round-is-mid, turn-is-mid}
 use Rattle.lattice.specs.Nearest.{cost}
 use Rattle.rounding.specs.Rounding.{round, left, turn, changed}
 

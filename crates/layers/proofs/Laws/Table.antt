@@ -4,7 +4,7 @@ use Rattle.std.proofs.Common.{◌∙◌, ap, arith}
 use Rattle.layers.specs.Digits.{IsLayer, entry_of, digits_of}
 use Rattle.layers.specs.E8.{e8, nearest, layer_point8}
 use Rattle.layers.specs.Laws.Entries.{entry_of-less, digits_of-entry_of, digits_of-layer, row_at, rows_long}
-use Rattle.layers.specs.Laws.Splitting.{layer_point-in}
+use Rattle.layers.proofs.Laws.Splitting.{layer_point-in}
 use Rattle.layers.specs.Table.{layer_table}
 
 module _ (i : ℕ) where

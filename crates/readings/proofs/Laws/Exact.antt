@@ -15,7 +15,7 @@ use Rattle.std.specs.Float.Ieee.Scale.{round_same}
 use Rattle.integers.specs.Laws.Difference.{by_d, by_d₂, ints}
 use Rattle.integers.specs.Laws.Signed.{neg-*ℤ}
 use Rattle.readings.specs.Fractions.{signed, fraction, Exactly}
-use Rattle.readings.specs.Laws.Nearest.{signed-times}
+use Rattle.readings.proofs.Laws.Nearest.{signed-times}
 
 -- ---- single precision holds every z / 2 ^ k with z up to 2 ^ 24 in magnitude
 

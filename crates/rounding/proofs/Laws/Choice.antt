@@ -23,9 +23,9 @@ use Rattle.lattice.specs.Laws.Dn.{nearest_d-least}
 use Rattle.lattice.specs.Laws.Halves.{cost-spread, double-pos}
 use Rattle.rounding.specs.Laws.Keys.{top-place}
 use Rattle.lattice.specs.Laws.Least.{le_v-heads}
-use Rattle.rounding.specs.Laws.Mended.{mend-nearest, mend-cost, mend-first}
+use Rattle.rounding.proofs.Laws.Mended.{mend-nearest, mend-cost, mend-first}
 use Rattle.lattice.specs.Laws.Parity.{parities}
-use Rattle.rounding.specs.Laws.Scans.{scan-sum, scan-even, scan-odd, scan-top, twin-at, odd-top, odd-parity}
+use Rattle.rounding.proofs.Laws.Scans.{scan-sum, scan-even, scan-odd, scan-top, twin-at, odd-top, odd-parity}
 use Rattle.lattice.specs.Nearest.{cost}
 use Rattle.rounding.specs.Pass.{Ranged, Small, scanned, mended, first, lead, even_mend, odd_mend, chosen, choose, spread_by}
 use Rattle.rounding.specs.Rounding.{round, left, sign, Divisor}

@@ -13,8 +13,8 @@ use Rattle.readings.specs.Taking.{units_most, measure_units, measure_float, InRa
 use Rattle.readings.specs.declared.Measured.{Measured}
 use Rattle.readings.specs.declared.Measured.TheVariants.{Units, Missing, OutOfRange}
 use Rattle.readings.specs.declared.Taken.TheVariants as taken
-use Rattle.readings.specs.Laws.Nearest.{Nearest, nearest-is, nearest-signed-same, nearest-within, abs-signed}
-use Rattle.readings.specs.Laws.Exact.{fraction-exact}
+use Rattle.readings.proofs.Laws.Nearest.{Nearest, nearest-is, nearest-signed-same, nearest-within, abs-signed}
+use Rattle.readings.proofs.Laws.Exact.{fraction-exact}
 
 -- ---- whole units
 

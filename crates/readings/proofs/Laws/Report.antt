@@ -6,7 +6,7 @@ use Rattle.std.specs.Float.Ieee.{sub}
 use Rattle.readings.specs.Fractions.{Exactly}
 use Rattle.readings.specs.Taking.{units_value}
 use Rattle.readings.specs.Report.{decoded_value, report_reading, Reportable}
-use Rattle.readings.specs.Laws.Exact.{fraction-exact, exactly-doubled, sub-exact}
+use Rattle.readings.proofs.Laws.Exact.{fraction-exact, exactly-doubled, sub-exact}
 
 module _ (X s e : ℤ) (h : Reportable X s e) where
   pub report-taken : Exactly (report_reading X s e).taken X 1024

@@ -21,10 +21,10 @@ use Rattle.lattice.specs.Laws.Dn.{Summed, nearest_d-least}
 use Rattle.lattice.specs.Laws.Halves.{double-pos}
 use Rattle.rounding.specs.Laws.Keys.{Top, top-reads, top-place}
 use Rattle.lattice.specs.Laws.Least.{Least, least-unique}
-use Rattle.rounding.specs.Laws.Mending.{changed-cost}
-use Rattle.rounding.specs.Laws.Places.{place-nearest, place_same}
-use Rattle.rounding.specs.Laws.Reciprocals.{left-small, round-small}
-use Rattle.rounding.specs.Laws.Rounds.{rounds-least}
+use Rattle.rounding.proofs.Laws.Mending.{changed-cost}
+use Rattle.rounding.proofs.Laws.Places.{place-nearest, place_same}
+use Rattle.rounding.proofs.Laws.Reciprocals.{left-small, round-small}
+use Rattle.rounding.proofs.Laws.Rounds.{rounds-least}
 use Rattle.lattice.specs.Nearest.{cost}
 use Rattle.rounding.specs.Pass.{mended, first}
 use Rattle.rounding.specs.Rounding.{round, left, sign, turn, changed, Divisor, spot}

@@ -17,11 +17,11 @@ use Rattle.lattice.specs.Laws.Rows.{Rows}
 use Rattle.rounding.specs.Rounding.{Divisor}
 use Rattle.layers.specs.Digits.{Below, IsLayer, IsCode, cut}
 use Rattle.layers.specs.E8.{e8, nearest, layer_point8, decode8}
-use Rattle.layers.specs.Laws.E8.{decode-in8}
-use Rattle.layers.specs.Laws.Loops.{code-drop}
+use Rattle.layers.proofs.Laws.E8.{decode-in8}
+use Rattle.layers.proofs.Laws.Loops.{code-drop}
 use Rattle.layers.specs.Laws.Rows.{cut-layers}
-use Rattle.layers.specs.Laws.Splitting.{layer_point-in}
-use Rattle.layers.specs.Laws.Widths.{layer_point-small, decode-under, round-stays}
+use Rattle.layers.proofs.Laws.Splitting.{layer_point-in}
+use Rattle.layers.proofs.Laws.Widths.{layer_point-small, decode-under, round-stays}
 use Rattle.layers.specs.Layers.{digit_point, layer_point}
 use Rattle.layers.specs.Sizes.{long_power, Base}
 

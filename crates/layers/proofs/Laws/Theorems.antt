@@ -7,7 +7,7 @@ use Rattle.integers.specs.Laws.Sums.{entries, lengths, ext}
 use Rattle.integers.specs.Vectors.{«at», zeros, add_v, sub_v, scale_v}
 use Rattle.layers.specs.Digits.{IsLayers}
 use Rattle.layers.specs.Laws.Points.{in-add, in-scale, in-sub, in-zeros}
-use Rattle.layers.specs.Laws.Splitting.{round-in, layer_digits-move, round-move, layer_point-in, layer_digits-are, split, layer_digits-of, round-of}
+use Rattle.layers.proofs.Laws.Splitting.{round-in, layer_digits-move, round-move, layer_point-in, layer_digits-are, split, layer_digits-of, round-of}
 use Rattle.layers.specs.Laws.Weights.{times-step, decode-next}
 use Rattle.layers.specs.Layers.{layer_digits, digits, leftover, layer_point, decode, Apart}
 use Rattle.layers.specs.Rule.{Lattice, Rule}

@@ -13,8 +13,8 @@ use Rattle.std.specs.Float.Ieee.Bits.{nan_bits_is, nan_bits_above}
 use Rattle.readings.specs.Fractions.{signed, nearest}
 use Rattle.readings.specs.Taking.{measure_units, measure_float, measure_bits}
 use Rattle.readings.specs.declared.Measured.TheVariants.{Missing, OutOfRange}
-use Rattle.readings.specs.Laws.Nearest.{abs-signed, nearest-small, nearest-signed-same, nearest-beyond}
-use Rattle.readings.specs.Laws.Taking.{units-beyond, float-missing, float-units}
+use Rattle.readings.proofs.Laws.Nearest.{abs-signed, nearest-small, nearest-signed-same, nearest-beyond}
+use Rattle.readings.proofs.Laws.Taking.{units-beyond, float-missing, float-units}
 
 -- ---- the size of a value with the exponent field x and the digits t, in units of 2 ^ -149
 

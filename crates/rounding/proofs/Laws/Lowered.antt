@@ -8,8 +8,8 @@ use Rattle.integers.specs.Laws.Sizes.{abs-add, abs-sub, lt_z-true}
 use Rattle.lattice.specs.Doubled.{par}
 use Rattle.rounding.specs.Laws.Keys.{key-down, key-up}
 use Rattle.lattice.specs.Laws.Parity.{parities}
-use Rattle.rounding.specs.Laws.Reciprocals.{round_is}
-use Rattle.rounding.specs.Laws.Rounds.{round-rest}
+use Rattle.rounding.proofs.Laws.Reciprocals.{round_is}
+use Rattle.rounding.proofs.Laws.Rounds.{round-rest}
 use Rattle.rounding.specs.Rounding.{round, left, sign, lowered, key}
 
 -- x rounds to f and leaves a, and x - s rounds to g and leaves b

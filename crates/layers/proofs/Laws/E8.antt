@@ -9,8 +9,8 @@ use Rattle.layers.specs.Digits.{IsLayers, joined, IsCode, cut}
 use Rattle.layers.specs.E8.{e8, nearest, digits8, leftover8, decode8}
 use Rattle.layers.specs.Laws.Inner.{dot-four}
 use Rattle.layers.specs.Laws.Rows.{cut-joined, joined-cut, joined-code, cut-layers}
-use Rattle.layers.specs.Laws.Theorems.{digits_are, decode-digits, decode-in, digits-decode, leftover-decode, fits_iff, digits-equal-iff}
-use Rattle.layers.specs.Laws.Widths.{decode-small, decode-under, decode-times}
+use Rattle.layers.proofs.Laws.Theorems.{digits_are, decode-digits, decode-in, digits-decode, leftover-decode, fits_iff, digits-equal-iff}
+use Rattle.layers.proofs.Laws.Widths.{decode-small, decode-under, decode-times}
 use Rattle.layers.specs.Layers.{layer_digits, digits, decode, Apart}
 use Rattle.layers.specs.Sizes.{width}
 

@@ -7,7 +7,7 @@ use Rattle.std.specs.Float.Ieee.{of_bits, to_bits, fits}
 use Rattle.std.specs.Float.Ieee.Bits.{of_bits-to_bits, to_bits-lt}
 use Rattle.readings.specs.Report.{decoded_value}
 use Rattle.readings.specs.Words.{word_at, bytes_of, put_word, put_decoded}
-use Rattle.readings.specs.Laws.Exact.{fraction-fits}
+use Rattle.readings.proofs.Laws.Exact.{fraction-fits}
 
 -- a number below 2 ^ 32 is the sum of its four bytes
 digits : (w : ℕ) → w < 2 ^ 32 → w % 256 + w / 256 % 256 * 256 + w / 65536 % 256 * 65536 + w / 16777216 % 256 * 16777216 ≡ w

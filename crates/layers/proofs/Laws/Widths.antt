@@ -13,7 +13,7 @@ use Rattle.integers.specs.Laws.Sums.{at-zeros, entries}
 use Rattle.integers.specs.Vectors.{«at», Bounded, Sized}
 use Rattle.refusals.specs.Limits.{q_most, power_most}
 use Rattle.layers.specs.Digits.{IsLayer, IsLayers}
-use Rattle.layers.specs.Laws.Splitting.{pos-lt, digit_point-in, layer_point-in}
+use Rattle.layers.proofs.Laws.Splitting.{pos-lt, digit_point-in, layer_point-in}
 use Rattle.layers.specs.Laws.Weights.{decode-next}
 use Rattle.layers.specs.Layers.{digit_point, leftover, layer_point, decode}
 use Rattle.layers.specs.Rule.{Lattice, Rule}

@@ -11,7 +11,7 @@ use Rattle.integers.specs.Vectors.{«at», add_v, sub_v, scale_v}
 use Rattle.lattice.specs.Basis.{floors}
 use Rattle.layers.specs.Digits.{IsLayer}
 use Rattle.layers.specs.Laws.Points.{coefficients-add, in-scale, coefficients-scale, in-sub}
-use Rattle.layers.specs.Laws.Remainders.{remainders-layer, remainders-floors, remainders-move, remainders-digits}
+use Rattle.layers.proofs.Laws.Remainders.{remainders-layer, remainders-floors, remainders-move, remainders-digits}
 use Rattle.layers.specs.Layers.{remainders, layer_digits, digit_point, layer_point}
 use Rattle.layers.specs.Rule.{Lattice, Rule}
 

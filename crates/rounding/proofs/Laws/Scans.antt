@@ -14,7 +14,7 @@ use Rattle.integers.specs.Vectors.{square, «at», sum_v, dot, Bounded}
 use Rattle.lattice.specs.Computed.{lower}
 use Rattle.lattice.specs.Doubled.{par}
 use Rattle.rounding.specs.Laws.Keys.{Top, key-small}
-use Rattle.rounding.specs.Laws.Lowered.{Twin, twins, lowered-small}
+use Rattle.rounding.proofs.Laws.Lowered.{Twin, twins, lowered-small}
 use Rattle.lattice.specs.Laws.Parity.{par-add}
 use Rattle.rounding.specs.Pass.{Light, Ranged, scanned}
 use Rattle.rounding.specs.Rounding.{round, left, lowered, Divisor, key}

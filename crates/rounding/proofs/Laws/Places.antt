@@ -12,9 +12,9 @@ use Rattle.lattice.specs.Computed.{nearest_d}
 use Rattle.lattice.specs.Doubled.{par}
 use Rattle.lattice.specs.Laws.Dn.{Summed, nearest_d-least}
 use Rattle.lattice.specs.Laws.Least.{Least, Tests, least-unique, cons-≤V}
-use Rattle.rounding.specs.Laws.Mending.{wins, worst, changed-cost, worst-<, compare, changed-least}
+use Rattle.rounding.proofs.Laws.Mending.{wins, worst, changed-cost, worst-<, compare, changed-least}
 use Rattle.lattice.specs.Laws.Parity.{par-add}
-use Rattle.rounding.specs.Laws.Rounds.{turn-is-mid}
+use Rattle.rounding.proofs.Laws.Rounds.{turn-is-mid}
 use Rattle.lattice.specs.Nearest.{cost}
 use Rattle.rounding.specs.Rounding.{round, left, turn, changed, Place}
 
