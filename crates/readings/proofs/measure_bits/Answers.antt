@@ -1,5 +1,4 @@
 -- `measure_bits` tells a NaN and what is too large by the pattern's size, and leaves the rest to its whole units.
-use borrow.Author.Rules.{rules}
 use mathlib.Core.Path.{sym, ◌∙◌, ap}
 use native.Mathlib.Omega.{arith}
 use mir.Syntax.{w32}

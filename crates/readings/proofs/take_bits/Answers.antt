@@ -1,5 +1,4 @@
 -- `take_bits` hands out what `measure_bits` finds, whose units are in range.
-use borrow.Author.Rules.{rules}
 use mathlib.Core.Path.{sym, ◌∙◌, ap, subst}
 use Rattle.readings.specs.Taking.{taken_of, InRange}
 use Rattle.readings.proofs.Laws.Taking.{float-in-range}

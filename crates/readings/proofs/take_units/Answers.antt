@@ -1,5 +1,4 @@
 -- `take_units` hands out what `measure_units` finds, whose units are in range.
-use borrow.Author.Rules.{rules}
 use mathlib.Core.Path.{sym, ◌∙◌, ap, subst}
 use mir.Facts.{to_z-of_z}
 use Rattle.readings.specs.Taking.{measure_units, taken_of, InRange}

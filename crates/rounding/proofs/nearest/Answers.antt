@@ -57,6 +57,6 @@ unfolding nearest
 returns-in-Accepted c =
     let s = c.args.s in let d = c.args.d.now in let a = asked d s _ c.ranges.s c.check_nearest.ensures c.in-Accepted.is in
     let e : c.narrow.result ≡ nearest_point s d = c.narrow.ensures ∙ found d _ _ s c.ranges.s c.nearest_point-e.ensures c.widen.ensures in record {
-  answer = rw e (ap (λ (w : Verdict). answered w (nearest_point s d)) (sym (sym (judged d s _ c.ranges.s c.check_nearest.ensures) ∙ c.in-Accepted.is)));
-  closest = λ h. rw e (nearest8 s (omega (arith, Z, a.least)) d a.input.long);
-}
+      answer = rw e (ap (λ (w : Verdict). answered w (nearest_point s d)) (sym (sym (judged d s _ c.ranges.s c.check_nearest.ensures) ∙ c.in-Accepted.is)));
+      closest = λ h. rw e (nearest8 s (omega (arith, Z, a.least)) d a.input.long);
+    }

@@ -8,7 +8,7 @@ use borrow.Rule.Slice.PartMut.{put_mid}
 use lib.IntN.{ℤ, pos, nat_abs}
 use lib.ListN.{length, take, drop, length-append, length-take, length-drop}
 use mir.Syntax.{w64}
-use mir.Val.{SFits, to_z}
+use mir.Val.{SFits}
 use mir.Facts.{to_z-of_z}
 use Rattle.integers.specs.Floor.{reciprocal}
 use Rattle.integers.specs.Laws.Sums.{sized-more}

@@ -3,7 +3,6 @@ use mathlib.Core.Path.{sym, ◌∙◌, ap, subst}
 use mathlib.Core.List.{List, ◌++◌}
 use Prim.Native.Nat.{◌*◌, ◌^◌}
 use native.Mathlib.Omega.{arith}
-use borrow.Author.Rules.{rules}
 use lib.IntN.{ℤ, nat_abs}
 use lib.ListN.{drop}
 use mir.Facts.{to_z-of_z}

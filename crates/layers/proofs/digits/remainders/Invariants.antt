@@ -1,17 +1,10 @@
 -- `remainders` writes eight digits: after k turns the first k are right, and the rest is as found.
-use mathlib.Core.Path.{◌≡◌, refl, sym, ◌∙◌, ap, ap₂}
-use mathlib.Core.List.{List, ◌++◌}
-use Prim.Native.Nat.{ℕ, ◌-◌, ◌≤◌}
-use native.Mathlib.Omega.{arith}
-use lib.IntN.{ℤ, pos, nat_abs}
-use lib.ListN.{length, get_or, take, drop, set, length-set, length-map, get_or-map}
-use lib.Seq.{take_all}
-use mir.Syntax.{w64}
-use mir.Val.{SFits, to_z}
-use mir.Facts.{to_z-of_z}
-use Rattle.integers.specs.Floor.{floor_mod}
+use mathlib.Core.Path.{◌≡◌}
+use mathlib.Core.List.{◌++◌}
+use Prim.Native.Nat.{◌-◌, ◌≤◌}
+use lib.IntN.{nat_abs}
+use lib.ListN.{length, take, drop}
 use Rattle.layers.specs.Layers.{remainders}
-use Rattle.layers.proofs.Laws.Loops.{write-next}
 use Rattle.layers.proofs.digits.remainders.Given as goal
 
 abbrev pub invariant-loop-k : goal.invariant-loop-k

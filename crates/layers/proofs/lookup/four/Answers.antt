@@ -1,6 +1,5 @@
 -- `four` sums its four digits, each in its byte.
 use native.Mathlib.Omega.{arith}
-use borrow.Author.Rules.{rules}
 use Rattle.layers.specs.Laws.Entries.{word-is}
 use Rattle.layers.proofs.lookup.four.Goals as goal
 

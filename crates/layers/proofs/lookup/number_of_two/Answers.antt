@@ -1,13 +1,12 @@
 -- The two words joined, by the word of the powers: the fourth byte is the number of all eight.
-use mathlib.Core.Path.{◌≡◌, ◌∙◌, ap, ap₂, subst}
+use mathlib.Core.Path.{◌≡◌, ◌∙◌, ap₂, subst}
 use mathlib.Core.List.{List}
 use Prim.Native.Nat.{ℕ, ◌+◌, ◌*◌, ◌/◌, ◌%◌, ◌^◌, ◌<◌, ◌≤◌}
 use native.Mathlib.Nat.{mul-le-mul}
 use native.Mathlib.Omega.{arith}
-use borrow.Author.Rules.{rules}
 use lib.ListN.{length, take, drop, length-drop}
 use lib.Seq.{length-take-le}
-use Rattle.layers.specs.Digits.{Below, entry_of, powers}
+use Rattle.layers.specs.Digits.{Below, entry_of}
 use Rattle.layers.specs.Laws.Entries.{entry_of-less, entry_of-halves, gathered-two}
 use Rattle.layers.specs.Laws.Rows.{below-take, below-drop, below_more}
 use Rattle.layers.proofs.lookup.number_of_two.Goals as goal

@@ -1,6 +1,5 @@
 -- Where q is 2 the table is lent, and else nothing that is read.
 use mathlib.Core.Path.{sym, ◌∙◌, ap}
-use borrow.Author.Rules.{rules}
 use lib.IntN.{ℤ, pos, nat_abs}
 use mir.Syntax.{w64}
 use mir.Val.{of_z}

@@ -1,14 +1,14 @@
 -- `plus_times` fills by a + k b: after i turns the first i entries are right.
 use mathlib.Core.Path.{◌≡◌, refl, sym, ◌∙◌}
 use mathlib.Core.List.{List, map-id}
-use Prim.Native.Nat.{◌+◌, ◌-◌, ◌^◌, ◌≤◌}
+use Prim.Native.Nat.{◌^◌, ◌≤◌}
 use native.Mathlib.Omega.{arith}
 use lib.IntN.{ℤ, pos, nat_abs, ◌+ℤ◌, ◌*ℤ◌}
 use lib.ListN.{length, get_or}
 use mir.Syntax.{w64}
-use mir.Val.{SFits, to_z}
+use mir.Val.{SFits}
 use mir.Facts.{to_z-of_z}
-use Rattle.integers.specs.Laws.Loops.{Filled, filled_more, filled-all}
+use Rattle.integers.specs.Laws.Loops.{filled_more, filled-all}
 use Rattle.integers.specs.Laws.Sizes.{fits-abs, fits-add, abs-mul-le}
 use Rattle.integers.specs.Laws.Sums.{entries, lengths}
 use Rattle.integers.specs.Vectors.{«at», add_v, scale_v}

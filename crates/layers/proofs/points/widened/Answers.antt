@@ -1,7 +1,7 @@
 -- `widened` copies eight digits: after k turns the first k are right.
 use mathlib.Core.Path.{refl}
 use mathlib.Core.List.{List}
-use Prim.Native.Nat.{ℕ, ◌-◌}
+use Prim.Native.Nat.{ℕ}
 use native.Mathlib.Omega.{arith}
 use lib.IntN.{pos}
 use lib.ListN.{get_or}
@@ -9,7 +9,7 @@ use mir.Syntax.{w64}
 use mir.Val.{SFits}
 use mir.Facts.{to_z_pos}
 use Rattle.integers.specs.Laws.Sizes.{fits-abs}
-use Rattle.integers.specs.Laws.Loops.{Filled, filled_more, filled-all}
+use Rattle.integers.specs.Laws.Loops.{filled_more, filled-all}
 use Rattle.layers.proofs.points.widened.Goals as goal
 use Rattle.layers.proofs.points.widened.Goals.{After-shared_slice_known-1}
 use Rattle.layers.proofs.points.widened.Lts as lts

@@ -1,5 +1,4 @@
 -- `nearest_size` adds half of 2 ^ k, less one where a half stays below, and shifts: the law `nearest-signed`.
-use borrow.Author.Rules.{rules}
 use mathlib.Core.Path.{◌≡◌, sym, ◌∙◌, ap}
 use mathlib.Core.Bool.{cond}
 use Prim.Native.Nat.{ℕ, ◌+◌, ◌*◌, ◌-◌, ◌%◌, ◌^◌, ◌≤◌}

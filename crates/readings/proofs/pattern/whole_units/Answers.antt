@@ -1,5 +1,4 @@
 -- `whole_units` rounds to the nearest units: 0 below half a unit, else twice the digits over a power of two.
-use borrow.Author.Rules.{rules}
 use mathlib.Core.Path.{sym, ◌∙◌, ap}
 use Prim.Native.Nat.{◌-◌, ◌/◌, ◌%◌}
 use native.Mathlib.Omega.{arith}

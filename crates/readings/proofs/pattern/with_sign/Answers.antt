@@ -1,5 +1,4 @@
 -- `with_sign` gives a size its sign: a number up to 2 ^ 27 is the same as an i32, and so is its negation.
-use borrow.Author.Rules.{rules}
 use mathlib.Core.Path.{◌≡◌, sym, ◌∙◌, ap}
 use mathlib.Core.Bool.{Bool}
 use Prim.Native.Nat.{ℕ, zero, suc, ◌≤◌, ◌^◌}

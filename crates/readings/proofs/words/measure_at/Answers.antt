@@ -1,5 +1,4 @@
 -- `measure_at` measures the word that it reads.
-use borrow.Author.Rules.{rules}
 use mathlib.Core.Path.{◌∙◌, ap}
 use Rattle.readings.specs.Taking.{measure_bits}
 use Rattle.readings.proofs.words.measure_at.Goals as goal

@@ -1,5 +1,4 @@
 -- `put_decoded` writes the pattern of the decoded reading, which is a number, so that its pattern is the only one.
-use borrow.Author.Rules.{rules}
 use mathlib.Core.Path.{◌≡◌, sym, ◌∙◌, ap, subst}
 use mathlib.Core.Bool.{not}
 use lib.Dec.{T, lit≤}

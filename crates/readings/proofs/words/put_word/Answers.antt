@@ -1,5 +1,4 @@
 -- `put_word` sets four bytes in a row, which is a part of the list replaced.
-use borrow.Author.Rules.{rules}
 use mathlib.Core.Path.{◌≡◌}
 use Prim.Native.Nat.{suc, ◌+◌}
 use native.Mathlib.Omega.{arith}

@@ -1,5 +1,4 @@
 -- `spot` reads the entry off a key's last four bits: what its test says.
-use borrow.Author.Rules.{rules}
 use borrow.Author.Tests.{lt-ltb, le-ltb}
 use Rattle.rounding.proofs.coordinate.spot.Goals as goal
 

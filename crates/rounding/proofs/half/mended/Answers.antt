@@ -1,5 +1,4 @@
 -- `mended` reads the mend off the key, field by field.
-use borrow.Author.Rules.{rules}
 use mathlib.Core.Path.{◌≡◌, ◌∙◌, ap, ap₂}
 use mathlib.Core.Bool.{cond}
 use Prim.Native.Nat.{ℕ, ◌/◌, ◌%◌}

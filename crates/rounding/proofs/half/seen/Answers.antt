@@ -1,5 +1,4 @@
 -- `seen` adds one entry to what the pass has seen, field by field.
-use borrow.Author.Rules.{rules}
 use mathlib.Core.Path.{◌≡◌, sym, ◌∙◌, ap₂, subst}
 use Prim.Native.Nat.{ℕ, ◌+◌, ◌^◌, ◌≤◌, min, max}
 use native.Mathlib.Omega.{arith}

@@ -1,5 +1,4 @@
 -- `chosen` mends both halves, compares them, and takes one: call by call what the definition says.
-use borrow.Author.Rules.{rules}
 use mathlib.Core.Path.{◌≡◌, sym, ◌∙◌, ap, ap₂, subst}
 use mathlib.Core.Bool.{Bool, true, false, cond}
 use Prim.Native.Nat.{◌+◌, ◌*◌, ◌-◌}

@@ -1,5 +1,4 @@
 -- `lead` is what its definition says: every number on the way is small, so that nothing wraps.
-use borrow.Author.Rules.{rules}
 use mathlib.Core.Path.{◌≡◌, sym, ◌∙◌, ap, ap₂, subst}
 use mathlib.Core.Bool.{cond}
 use native.Mathlib.Omega.{arith}

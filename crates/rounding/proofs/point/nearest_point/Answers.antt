@@ -1,5 +1,4 @@
 -- `nearest_point` rounds, passes over the roundings once, chooses a half and mends it; `nearest_point-code` says that this is the nearest point.
-use borrow.Author.Rules.{rules}
 use mathlib.Core.Path.{◌≡◌, refl, sym, ◌∙◌, ap, ap₂, subst}
 use mathlib.Core.List.{List, map}
 use Prim.Native.Nat.{◌^◌, ◌<◌, ◌≤◌}
@@ -18,7 +17,7 @@ use Rattle.rounding.proofs.Laws.Mended.{rounds-sized, lefts-sized}
 use Rattle.rounding.proofs.Laws.Reciprocals.{twice-pos}
 use Rattle.rounding.proofs.Laws.Scans.{scan-ranged}
 use Rattle.rounding.specs.Pass.{Ranged, scanned, chosen, spread_by}
-use Rattle.rounding.specs.Rounding.{round, left, sign, reciprocal}
+use Rattle.rounding.specs.Rounding.{round, left, sign}
 use Rattle.rounding.proofs.point.nearest_point.Goals as goal
 use Rattle.rounding.proofs.point.nearest_point.Goals.{After-chosen-c, After-scanned, After-sign, Start}
 use Rattle.rounding.proofs.point.nearest_point.Lts as lts

@@ -1,15 +1,14 @@
 -- `spread` fills its result by twice each rounding and p times the way on.
 use mathlib.Core.Path.{◌≡◌, refl, sym, ◌∙◌, ap, subst}
-use mathlib.Core.List.{List}
-use Prim.Native.Nat.{ℕ, ◌-◌, ◌^◌}
+use Prim.Native.Nat.{ℕ, ◌^◌}
 use native.Mathlib.Nat.{zero-add}
 use native.Mathlib.Omega.{arith}
 use lib.IntN.{ℤ, pos, ◌+ℤ◌, ◌*ℤ◌}
 use lib.ListN.{get_or}
 use mir.Syntax.{w64}
-use mir.Val.{SFits, to_z}
+use mir.Val.{SFits}
 use mir.Facts.{to_z-of_z}
-use Rattle.integers.specs.Laws.Loops.{Filled, filled_more, filled-all, range_at}
+use Rattle.integers.specs.Laws.Loops.{filled_more, filled-all, range_at}
 use Rattle.integers.specs.Laws.Sizes.{abs-mul, abs-mul-le, fits-abs, fits-add, fits-mul}
 use Rattle.integers.specs.Vectors.{«at», range}
 use Rattle.rounding.proofs.Laws.Choice.{sign_small}
