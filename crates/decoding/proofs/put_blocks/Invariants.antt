@@ -1,22 +1,12 @@
 -- `put_blocks` has the points made, then writes block after block, each into its part: after i turns the bytes of the first i stand before the rest as found.
-use borrow.Author.Rules.{rules}
-use mathlib.Core.Path.{◌≡◌, refl, sym, ◌∙◌, ap, ap₂, subst, subst₂}
-use mathlib.Core.List.{List, [], ◌++◌, map}
-use Prim.Native.Nat.{ℕ, ◌+◌, ◌*◌, ◌-◌, ◌<◌, ◌≤◌}
-use native.Mathlib.Omega.{arith}
-use borrow.Rule.Slice.PartMut.{put_mid}
-use lib.IntN.{ℤ, pos, nat_abs}
-use lib.ListN.{length, get_or, take, drop, replicate, length-take, length-drop}
-use mir.Syntax.{w64}
-use mir.Val.{SFits, to_z}
-use mir.Facts.{to_z-of_z}
+use mathlib.Core.Path.{◌≡◌}
+use mathlib.Core.List.{◌++◌, map}
+use Prim.Native.Nat.{◌*◌, ◌-◌, ◌≤◌}
+use lib.IntN.{nat_abs}
+use lib.ListN.{length, drop}
 use Rattle.layers.specs.Digits.{joined, cut}
-use Rattle.layers.proofs.Laws.Loops.{write-in}
-use Rattle.records.specs.Eight.Codes.{block_size, step_of, whole_point}
-use Rattle.decoding.specs.Decode.{Readable, reading_bytes, decoded_bytes}
-use Rattle.decoding.specs.Laws.Decode.{block-readable}
-use Rattle.records.specs.Laws.Parts.{part-ends, cut-more, joined-more, front_long}
-use Rattle.points.specs.Laws.Points.{coder-digital, blocks-codes, row_at}
+use Rattle.records.specs.Eight.Codes.{block_size}
+use Rattle.decoding.specs.Decode.{decoded_bytes}
 use Rattle.decoding.proofs.put_blocks.Given as goal
 
 abbrev pub invariant-loop-i : goal.invariant-loop-i

@@ -1,19 +1,10 @@
 -- `put_readings` writes reading after reading: after i turns the bytes of the first i stand before the rest as found.
-use borrow.Author.Rules.{rules}
-use mathlib.Core.Path.{◌≡◌, refl, sym, ◌∙◌, ap, ap₂}
-use mathlib.Core.List.{List, ◌++◌, map, append-nil}
-use Prim.Native.Nat.{ℕ, ◌+◌, ◌*◌, ◌-◌, ◌≤◌}
-use native.Mathlib.Omega.{arith}
-use lib.IntN.{ℤ, pos}
-use lib.ListN.{length, take, drop, drop_of_length-le}
-use lib.Seq.{take_all}
-use mir.Syntax.{w16, w64}
-use mir.Val.{SFits, to_z}
-use mir.Facts.{to_z-of_z}
-use Rattle.integers.specs.Vectors.{«at»}
+use mathlib.Core.Path.{◌≡◌}
+use mathlib.Core.List.{◌++◌, map}
+use Prim.Native.Nat.{◌*◌, ◌-◌, ◌≤◌}
+use lib.ListN.{length, take, drop}
 use Rattle.layers.specs.Digits.{joined}
 use Rattle.decoding.specs.Decode.{reading_bytes}
-use Rattle.records.specs.Laws.Parts.{joined-take, front_long, write-over}
 use Rattle.decoding.proofs.put_readings.Given as goal
 
 abbrev pub invariant-loop-i : goal.invariant-loop-i

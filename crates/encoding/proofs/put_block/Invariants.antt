@@ -1,12 +1,8 @@
 -- `put_block` copies byte by byte: after i turns the first i are the block's.
-use mathlib.Core.Path.{◌≡◌, refl, ◌∙◌, ap, ap₂}
-use mathlib.Core.List.{List, ◌++◌, append-nil}
-use Prim.Native.Nat.{ℕ, ◌-◌, ◌≤◌}
-use native.Mathlib.Omega.{arith}
-use borrow.Author.Rules.{rules}
-use lib.ListN.{length, get_or, take, drop, set, length-set, drop_of_length-le}
-use lib.Seq.{take_all}
-use Rattle.layers.proofs.Laws.Loops.{write-next}
+use mathlib.Core.Path.{◌≡◌}
+use mathlib.Core.List.{◌++◌}
+use Prim.Native.Nat.{◌-◌, ◌≤◌}
+use lib.ListN.{length, take, drop}
 use Rattle.encoding.proofs.put_block.Given as goal
 
 abbrev pub invariant-loop-i : goal.invariant-loop-i

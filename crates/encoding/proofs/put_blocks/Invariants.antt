@@ -1,14 +1,8 @@
 -- `put_blocks` writes block after block, each in its own part: after i turns the first i stand in front.
-use mathlib.Core.Path.{◌≡◌, refl, sym, ◌∙◌, ap, ap₂}
-use mathlib.Core.List.{List, ◌++◌}
-use Prim.Native.Nat.{ℕ, ◌+◌, ◌*◌, ◌-◌, ◌≤◌}
-use native.Mathlib.Omega.{arith}
-use borrow.Author.Rules.{rules}
-use borrow.Rule.Slice.PartMut.{put_mid}
-use lib.ListN.{length, take, drop, length-take, length-drop}
-use lib.Seq.{take-add}
-use Rattle.layers.proofs.Laws.Loops.{write-in}
-use Rattle.records.specs.Laws.Parts.{part-ends}
+use mathlib.Core.Path.{◌≡◌}
+use mathlib.Core.List.{◌++◌}
+use Prim.Native.Nat.{◌*◌, ◌-◌, ◌≤◌}
+use lib.ListN.{length, take, drop}
 use Rattle.encoding.proofs.put_blocks.Given as goal
 
 abbrev pub invariant-loop-i : goal.invariant-loop-i

@@ -1,12 +1,7 @@
 -- `gathered` puts block after block: after b turns the first b columns hold the layer of their blocks.
-use mathlib.Core.Path.{◌≡◌, ap, subst}
 use mathlib.Core.List.{List}
-use Prim.Native.Nat.{ℕ, ◌+◌, ◌*◌, ◌-◌, ◌<◌, ◌≤◌}
-use native.Mathlib.Omega.{arith}
-use lib.ListN.{length, take, drop}
-use Rattle.records.specs.Eight.Codes.{block_size}
-use Rattle.points.specs.Laws.Lanes.{Laid, layer_at, laid_none, laid_more, laid-gathered}
-use Rattle.records.specs.Laws.Parts.{part-ends}
+use Prim.Native.Nat.{ℕ, ◌-◌, ◌≤◌}
+use Rattle.points.specs.Laws.Lanes.{Laid, layer_at}
 use Rattle.points.proofs.gathered.Given as goal
 
 -- the layer i of block b

@@ -1,13 +1,7 @@
 -- `gathered_layers` puts layer after layer of block after block: after i layers of block b the first m b + i columns are laid.
-use mathlib.Core.Path.{◌≡◌, ◌∙◌, ap, subst}
-use mathlib.Core.List.{List}
-use Prim.Native.Nat.{ℕ, ◌+◌, ◌*◌, ◌-◌, ◌<◌, ◌≤◌}
-use native.Mathlib.Omega.{arith}
-use lib.ListN.{length, take, drop, replicate}
-use Rattle.records.specs.Eight.Codes.{block_size}
-use Rattle.points.specs.Laws.Folded.{layer_of, layer-of, laid-all}
-use Rattle.points.specs.Laws.Lanes.{Laid, laid_none, laid_more}
-use Rattle.records.specs.Laws.Parts.{part-ends}
+use Prim.Native.Nat.{◌+◌, ◌*◌, ◌-◌, ◌≤◌}
+use Rattle.points.specs.Laws.Folded.{layer_of}
+use Rattle.points.specs.Laws.Lanes.{Laid}
 use Rattle.points.proofs.gathered_layers.Given as goal
 
 abbrev pub invariant-loop-i : goal.invariant-loop-i

@@ -1,13 +1,11 @@
 -- `put_columns` writes column after column, each into its row: after b turns the first b stand between the rows as found.
-use mathlib.Core.Path.{◌≡◌, ◌∙◌, ap, ap₂}
-use mathlib.Core.List.{List, [], ◌++◌, map}
-use Prim.Native.Nat.{ℕ, ◌+◌, ◌-◌, ◌<◌, ◌≤◌}
-use native.Mathlib.Omega.{arith}
-use lib.IntN.{ℤ, pos}
-use lib.ListN.{length, take, drop, set}
+use mathlib.Core.Path.{◌≡◌}
+use mathlib.Core.List.{◌++◌, map}
+use Prim.Native.Nat.{ℕ, ◌+◌, ◌-◌, ◌≤◌}
+use lib.IntN.{pos}
+use lib.ListN.{take, drop}
 use Rattle.integers.specs.Vectors.{range}
 use Rattle.columns.specs.Columns.{column}
-use Rattle.points.specs.Laws.Lanes.{columns-start, columns-more, columns-long}
 use Rattle.points.proofs.put_columns.Given as goal
 
 abbrev pub invariant-loop-b : goal.invariant-loop-b

@@ -1,11 +1,8 @@
 -- `put_layer` goes down the rows: after j turns the first j have their digit.
-use mathlib.Core.Path.{◌≡◌, sym, ◌∙◌}
 use mathlib.Core.List.{List}
-use Prim.Native.Nat.{ℕ, ◌+◌, ◌-◌, ◌≤◌}
-use native.Mathlib.Omega.{arith}
-use lib.ListN.{length, get_or, take, drop, length-take, length-drop}
-use lib.Seq.{get_or-take, get_or-drop}
-use Rattle.points.specs.Laws.Lanes.{Putting, putting-none, putting-more, putting-all}
+use Prim.Native.Nat.{ℕ, ◌-◌, ◌≤◌}
+use lib.ListN.{take, drop}
+use Rattle.points.specs.Laws.Lanes.{Putting}
 use Rattle.points.proofs.put_layer.Given as goal
 
 -- the digits from a on

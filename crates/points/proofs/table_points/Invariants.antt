@@ -1,15 +1,10 @@
 -- `table_points` decodes block after block, each into its row: after i turns the points of the first i stand before the rows as found.
-use mathlib.Core.Path.{◌≡◌, refl, sym, ◌∙◌, ap, ap₂, subst}
-use mathlib.Core.List.{List, [], ◌++◌, map}
-use Prim.Native.Nat.{ℕ, ◌+◌, ◌*◌, ◌-◌, ◌<◌, ◌≤◌}
-use native.Mathlib.Omega.{arith}
-use lib.IntN.{ℤ}
-use lib.ListN.{length, take, drop, set}
-use Rattle.layers.specs.Digits.{IsCode, cut}
-use Rattle.layers.specs.E8.{decode8}
+use mathlib.Core.Path.{◌≡◌}
+use mathlib.Core.List.{◌++◌, map}
+use Prim.Native.Nat.{◌-◌, ◌≤◌}
+use lib.ListN.{drop}
+use Rattle.layers.specs.Digits.{cut}
 use Rattle.records.specs.Eight.Codes.{block_size, whole_point}
-use Rattle.records.specs.Laws.Parts.{part-ends}
-use Rattle.points.specs.Laws.Points.{digits-part, rows_more, rows_long}
 use Rattle.points.proofs.table_points.Given as goal
 
 abbrev pub invariant-loop-i : goal.invariant-loop-i

@@ -1,66 +1,38 @@
 -- `report` is refused with what was given, or else reports on the block.
-use mathlib.Core.Path.{◌≡◌, sym, ◌∙◌, ap, ap₂, subst₂}
-use mathlib.Core.List.{List, [], ◌∷◌}
-use Prim.Native.Nat.{ℕ}
-use borrow.Author.Rules.{rules}
-use lib.IntN.{ℤ, nat_abs}
+use Rattle.std.proofs.Common.{◌≡◌, [], ◌∷◌, ℕ, ℤ, nat_abs, sym, ◌∙◌, ap, ap₂, subst₂, rules}
 use mir.Syntax.{w64}
-use mir.Val.{SFits}
-use mir.Facts.{to_z-of_z}
+use mir.Val.{to_z, of_z}
 use Rattle.refusals.specs.declared.Verdict.{Verdict}
-use Rattle.refusals.specs.declared.Verdict.TheVariants.{Accepted}
-use Rattle.records.specs.Eight.Codes.{Coder}
 use Rattle.layers.specs.Code.{code8}
+use Rattle.records.specs.Eight.Codes.{Coder}
 use Rattle.encoding.specs.Encode.{check_fits}
-use Rattle.reports.specs.Laws.Report.{Given, given-taken, report-refused, report-last}
-use Rattle.reports.specs.Report.{check_given, block_report, reported, report}
+use Rattle.reports.specs.Laws.Report.{given-taken, report-refused, report-last}
+use Rattle.reports.specs.Report.{block_report, reported, report}
+use Rattle.reports.specs.declared.ReportAnswer.{ReportAnswer}
 use Rattle.reports.proofs.report.Goals as goal
-use Rattle.reports.proofs.report.Goals.{After-layers, In-Accepted, Start}
-
--- where what was given is not refused
-module _ (c : In-Accepted) where
-  abbrev s : Start
-  s = c.before.before
-
-  abbrev x : List ℤ
-  x = s.args.x.now
-
-  abbrev steps : List ℤ
-  steps = s.args.steps.now
-
-  accepted : check_given s.args.s steps x ≡ Accepted
-  accepted = sym c.before.before.check_given.ensures ∙ c.enum_told-1.given.1
-
-  given : Given s.args.s steps x
-  given = given-taken s.args.s steps x accepted
 
 pub base-requires : goal.base-requires
-base-requires c = (given c).taken.allowed
+base-requires c = (given-taken c.args.s c.args.steps.now c.args.x.now (sym c.check_given.ensures ∙ c.in-Accepted.is)).taken.allowed
 
 pub layers-requires : goal.layers-requires
-layers-requires c = (given c.before).taken.allowed
-
--- q and M, as the block is given them
-module _ (c : After-layers) where
-  abbrev told : In-Accepted
-  told = c.before.before
-
-  fits : SFits w64 c.before.base.result
-  fits = record { sfits = c.before.base.type_inv }
+layers-requires c = (given-taken c.args.s c.args.steps.now c.args.x.now (sym c.check_given.ensures ∙ c.in-Accepted.is)).taken.allowed
 
 pub report_block-requires : goal.report_block-requires
-report_block-requires c = let t = told c in
-    simp (to_z-of_z, fits c) ((given t).block, subst₂ (λ (q : ℤ) (m : ℕ). Coder q m (steps t)) (sym c.before.base.ensures) (sym c.layers.ensures) (given t).taken.coder)
+report_block-requires c = let g = given-taken c.args.s c.args.steps.now c.args.x.now (sym c.check_given.ensures ∙ c.in-Accepted.is) in
+    let same : to_z w64 (of_z w64 c.base.result) ≡ c.base.result = search rules in
+    (g.block, subst₂ (λ (q : ℤ) (m : ℕ). Coder q m c.args.steps.now) (sym (same ∙ c.base.ensures)) (sym c.layers.ensures) g.taken.coder)
 
 pub returns-in-Refused : goal.returns-in-Refused
 unfolding report
-returns-in-Refused c = let k = c.before.before.before in let v = k.before.args in let X = v.x.now in let l = v.steps.now in
-    c.refused_report.ensures ∙ ap (λ (w : Verdict). reported w (block_report (nat_abs v.s.q) (nat_abs v.s.m) l X)) (sym (report-refused v.s l X _ (sym k.check_given.ensures ∙ c.before.before.r-1.given.1)))
+returns-in-Refused c = let v = c.args.s in let X = c.args.x.now in let l = c.args.steps.now in record {
+  answer = c.refused_report.ensures ∙ ap (λ (w : Verdict). reported w (block_report (nat_abs v.q) (nat_abs v.m) l X)) (sym (report-refused v l X _ (sym c.check_given.ensures ∙ c.in-Refused.is)));
+}
 
 pub returns-in-Accepted : goal.returns-in-Accepted
 unfolding report
-returns-in-Accepted c =
-    let l = c.before in let t = told l in let v = (s t).args.s in
-    let block : ℤ → ℕ → _ = λ q m. reported (check_fits (code8 (nat_abs q) m) (steps t) 0 (x t ∷ [])) (block_report (nat_abs q) m (steps t) (x t)) in
-    c.report_block.ensures ∙ ap (λ (q : ℤ). block q l.layers.result) (to_z-of_z (fits l)) ∙ ap₂ block l.before.base.ensures l.layers.ensures
-    ∙ ap (λ (w : Verdict). reported w (block_report (nat_abs v.q) (nat_abs v.m) (steps t) (x t))) (sym (report-last v (steps t) (x t) (accepted t)))
+returns-in-Accepted c = let v = c.args.s in let X = c.args.x.now in let l = c.args.steps.now in
+    let same : to_z w64 (of_z w64 c.base.result) ≡ c.base.result = search rules in
+    let block : ℤ → ℕ → ReportAnswer = λ q m. reported (check_fits (code8 (nat_abs q) m) l 0 (X ∷ [])) (block_report (nat_abs q) m l X) in record {
+      answer = c.report_block.ensures ∙ ap₂ block (same ∙ c.base.ensures) c.layers.ensures
+          ∙ ap (λ (w : Verdict). reported w (block_report (nat_abs v.q) (nat_abs v.m) l X)) (sym (report-last v l X (sym c.check_given.ensures ∙ c.in-Accepted.is)));
+    }

@@ -1,15 +1,8 @@
 -- `report_readings` fills by the report on each reading: after i turns the first i entries are right.
-use mathlib.Core.Path.{◌≡◌, refl, sym, ◌∙◌, ap}
 use mathlib.Core.List.{List}
-use Prim.Native.Nat.{ℕ, ◌+◌, ◌-◌}
-use native.Mathlib.Omega.{arith}
-use borrow.Author.Rules.{rules}
+use Prim.Native.Nat.{ℕ, ◌-◌}
 use lib.IntN.{ℤ}
-use lib.ListN.{length, get_or}
-use mir.Syntax.{w32, w64}
-use mir.Val.{SFits, to_z}
-use mir.Facts.{to_z-of_z}
-use Rattle.integers.specs.Laws.Loops.{Filled, filled_more, filled-all, range_at}
+use Rattle.integers.specs.Laws.Loops.{Filled}
 use Rattle.integers.specs.Vectors.{«at», range}
 use Rattle.readings.specs.declared.Reading.{Reading}
 use Rattle.readings.specs.Report.{report_reading}

@@ -1,16 +1,6 @@
 -- `all_below` counts faults and raises eight numbers, block by block and layer by layer: at the end no digit is past the greatest of them.
-use mathlib.Core.Path.{◌≡◌, refl, sym, subst}
-use mathlib.Core.Bool.{false≢true}
-use mathlib.Core.List.{List}
-use Prim.Native.Nat.{ℕ, suc, ◌+◌, ◌*◌, ◌-◌, ◌≤◌}
-use native.Mathlib.Omega.{arith}
-use borrow.Author.Rules.{rules}
-use borrow.Author.Tests.{ltb-true}
-use lib.ListN.{length}
-use Rattle.layers.specs.Laws.Rows.{below_more}
-use Rattle.records.specs.Codes.{block_bytes}
-use Rattle.records.specs.Laws.Glance.{Raising, Glanced, raising-none, raising-more, glanced-none, glanced-more, glanced-all}
-use Rattle.records.specs.Laws.Parts.{part-ends}
+use Prim.Native.Nat.{◌+◌, ◌-◌}
+use Rattle.records.specs.Laws.Glance.{Raising, Glanced}
 use Rattle.records.proofs.codes.all_below.Given as goal
 
 abbrev pub invariant-loop-j : goal.invariant-loop-j

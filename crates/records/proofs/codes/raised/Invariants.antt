@@ -1,9 +1,6 @@
 -- `raised` fills its eight entries: after i turns the first i are below neither number of theirs.
-use mathlib.Core.Path.{refl}
 use Prim.Native.Nat.{◌-◌}
-use native.Mathlib.Omega.{arith}
 use Rattle.records.specs.Codes.{Raised}
-use Rattle.records.specs.Laws.Glance.{raised-more}
 use Rattle.records.proofs.codes.raised.Given as goal
 
 abbrev pub invariant-loop-i : goal.invariant-loop-i
