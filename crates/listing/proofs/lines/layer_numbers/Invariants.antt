@@ -1,18 +1,10 @@
 -- `layer_numbers` puts the digits after the layer's number: after i turns the first i of them.
-use borrow.Author.Rules.{rules}
-use mathlib.Core.Path.{◌≡◌, refl, sym, ◌∙◌, ap, ap₂}
-use mathlib.Core.List.{List, [], ◌∷◌, ◌++◌, map, map-append, append-nil}
-use Prim.Native.Nat.{ℕ, suc, ◌+◌, ◌-◌, ◌≤◌}
-use native.Mathlib.Numerals.{add-one}
-use native.Mathlib.Omega.{arith}
-use lib.IntN.{ℤ, pos}
-use lib.ListN.{length, get_or, take, set, length-set, length-map, drop_of_length-le}
-use lib.Seq.{sets, take-suc, take_all, length-take-le}
-use mir.Syntax.{w64}
-use mir.Val.{to_z}
-use mir.Facts.{to_z_pos}
-use Rattle.integers.specs.Vectors.{zeros}
-use Rattle.texts.specs.Laws.Rooms.{sets_more, sets-front}
+use mathlib.Core.Path.{◌≡◌}
+use mathlib.Core.List.{map}
+use Prim.Native.Nat.{◌-◌, ◌≤◌}
+use lib.IntN.{pos}
+use lib.ListN.{length, take}
+use lib.Seq.{sets}
 use Rattle.listing.proofs.lines.layer_numbers.Given as goal
 
 abbrev pub invariant-loop-i : goal.invariant-loop-i

@@ -1,20 +1,9 @@
 -- `put_fields` puts field after field: those that are left, from the place that was reached, give the same room as all.
-use borrow.Author.Rules.{rules}
-use mathlib.Core.Path.{◌≡◌, refl, sym, ◌∙◌, ap}
-use mathlib.Core.List.{List, [], ◌∷◌}
-use Prim.Native.Nat.{ℕ, suc, ◌+◌, ◌-◌, ◌≤◌}
-use native.Mathlib.Numerals.{add-one}
-use native.Mathlib.Omega.{arith}
-use lib.IntN.{ℤ}
-use lib.ListN.{length, drop, set, length-set, drop_of_length-le}
-use lib.Seq.{sets, length-sets}
-use mir.Syntax.{w64}
-use mir.Val.{SFits, to_z, of_z}
-use mir.Facts.{to_z-of_z}
-use Rattle.integers.specs.Vectors.{«at»}
-use Rattle.listing.specs.Laws.Lines.{fields-long, fields-next}
-use Rattle.listing.specs.Listing.{written, fields}
-use Rattle.texts.specs.Text.{space}
+use mathlib.Core.Path.{◌≡◌}
+use Prim.Native.Nat.{◌+◌, ◌-◌, ◌≤◌}
+use lib.ListN.{length, drop}
+use lib.Seq.{sets}
+use Rattle.listing.specs.Listing.{fields}
 use Rattle.listing.proofs.lines.put_fields.Given as goal
 
 abbrev pub invariant-loop-i : goal.invariant-loop-i

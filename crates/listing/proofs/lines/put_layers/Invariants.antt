@@ -1,15 +1,9 @@
 -- `put_layers` puts layer after layer: those that are left, from the place that was reached, give the same room as all.
-use borrow.Author.Rules.{rules}
-use mathlib.Core.Path.{◌≡◌, refl, sym, ◌∙◌, ap}
-use mathlib.Core.List.{List, []}
-use Prim.Native.Nat.{ℕ, suc, ◌+◌, ◌*◌, ◌-◌, ◌≤◌}
-use native.Mathlib.Omega.{arith}
-use lib.ListN.{length, take, drop, length-take, length-drop}
-use lib.Seq.{sets, length-sets}
-use Rattle.layers.specs.Digits.{cut}
-use Rattle.records.specs.Laws.Parts.{cut-whole, part-ends}
-use Rattle.listing.specs.Laws.Lines.{layers_from, layers-long, layers-next}
-use Rattle.listing.specs.Listing.{layer_line, layer_lines}
+use mathlib.Core.Path.{◌≡◌}
+use Prim.Native.Nat.{◌+◌, ◌-◌, ◌≤◌}
+use lib.ListN.{length}
+use lib.Seq.{sets}
+use Rattle.listing.specs.Laws.Lines.{layers_from}
 use Rattle.listing.proofs.lines.put_layers.Given as goal
 
 abbrev pub invariant-loop-k : goal.invariant-loop-k

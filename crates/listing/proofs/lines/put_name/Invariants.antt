@@ -1,13 +1,8 @@
 -- `put_name` puts byte after byte: after i turns the first i stand in the room.
-use borrow.Author.Rules.{rules}
-use mathlib.Core.Path.{◌≡◌, refl, sym, ◌∙◌, ap}
-use mathlib.Core.List.{List}
-use Prim.Native.Nat.{ℕ, ◌+◌, ◌-◌, ◌≤◌}
-use native.Mathlib.Numerals.{add-one}
-use native.Mathlib.Omega.{arith}
-use lib.ListN.{length, get_or, take, set, length-set}
-use lib.Seq.{sets, take-suc, take_all, length-take-le}
-use Rattle.texts.specs.Laws.Rooms.{sets_more}
+use mathlib.Core.Path.{◌≡◌}
+use Prim.Native.Nat.{◌-◌, ◌≤◌}
+use lib.ListN.{length, take}
+use lib.Seq.{sets}
 use Rattle.listing.proofs.lines.put_name.Given as goal
 
 abbrev pub invariant-loop-i : goal.invariant-loop-i
