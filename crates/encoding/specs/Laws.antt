@@ -1,5 +1,3 @@
 -- Proved facts of encoding.
 pub mod Encode
 pub mod Fitting
-pub mod Encoded
-pub mod Theorems

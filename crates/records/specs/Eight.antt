@@ -2,4 +2,3 @@
 pub mod Codes
 pub mod Vectors
 pub mod Asked
-pub mod Hours

@@ -21,12 +21,12 @@ use Rattle.decoding.specs.Decode.{fvecs_length, check_decode}
 use Rattle.layers.specs.Code.{code8, eight_of}
 use Rattle.encoding.specs.Encode.{code_record, encode_asked, check_encode, encoded_room}
 use Rattle.decoding.specs.Laws.Decode.{decode-accepted}
-use Rattle.encoding.specs.Laws.Theorems.{encode-accepted}
-use Rattle.encoding.specs.Laws.Encoded.{EncodeTaken, encode-taken}
+use Rattle.encoding.proofs.Laws.Theorems.{encode-accepted}
+use Rattle.encoding.proofs.Laws.Encoded.{EncodeTaken, encode-taken}
 use Rattle.encoding.specs.Laws.Fitting.{AllFitted}
 use Rattle.records.specs.Laws.Frames.{blocks-whole}
 use Rattle.records.specs.Frames.{Whole}
-use Rattle.records.specs.Eight.Hours.{Sound}
+use Rattle.records.proofs.Eight.Hours.{Sound}
 use Rattle.records.specs.Laws.Parts.{cut-long, cut_at}
 use Rattle.decoding.specs.Laws.Recorded.{record-count, record-good, block-bytes, encode-decodes, encoded-good}
 use Rattle.records.specs.Eight.Vectors.{Hour, check_readings, units_taken, blocks_of, in_blocks}

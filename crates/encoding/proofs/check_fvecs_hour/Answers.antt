@@ -12,11 +12,11 @@ use Rattle.refusals.specs.Verdicts.{unless, first_refusal}
 use Rattle.layers.specs.Code.{eight_of}
 use Rattle.records.specs.Eight.Asked.{coder-accepted}
 use Rattle.records.specs.Eight.Codes.{code_length}
-use Rattle.records.specs.Eight.Hours.{fvecs-count}
+use Rattle.records.proofs.Eight.Hours.{fvecs-count}
 use Rattle.records.specs.Eight.Vectors.{fvecs_hour, blocks_of}
 use Rattle.records.specs.Laws.Frames.{record-framed}
 use Rattle.encoding.specs.Encode.{encode_asked}
-use Rattle.encoding.specs.Laws.Encoded.{asked_is}
+use Rattle.encoding.proofs.Laws.Encoded.{asked_is}
 use Rattle.encoding.proofs.check_fvecs_hour.Goals as goal
 
 -- by what each check says

@@ -17,7 +17,7 @@ use Rattle.records.specs.Eight.Codes.{code_length}
 use Rattle.records.specs.Eight.Vectors.{units_hour, check_readings, blocks_of}
 use Rattle.records.specs.Laws.Frames.{blocks-whole}
 use Rattle.encoding.specs.Encode.{encode_asked}
-use Rattle.encoding.specs.Laws.Encoded.{asked_is}
+use Rattle.encoding.proofs.Laws.Encoded.{asked_is}
 use Rattle.encoding.proofs.check_units_hour.Goals as goal
 
 -- by what each check says

@@ -11,10 +11,10 @@ use Rattle.refusals.specs.Answers.{valued, written}
 use Rattle.refusals.specs.Verdicts.{first_refusal}
 use Rattle.layers.specs.Code.{code8, eight_of}
 use Rattle.records.specs.Eight.Codes.{Coder, code_length}
-use Rattle.records.specs.Eight.Hours.{fvecs-sound, fvecs-count}
+use Rattle.records.proofs.Eight.Hours.{fvecs-sound, fvecs-count}
 use Rattle.records.specs.Eight.Vectors.{fvecs_hour, check_readings, units_taken, in_blocks, UnitsTaken}
 use Rattle.encoding.specs.Encode.{check_fits, code_record, encode_asked}
-use Rattle.encoding.specs.Laws.Encoded.{EncodeTaken, asked-framed, encode-taken, encoded-is, encoded_room-is, encoded-refused, encoded_room-refused}
+use Rattle.encoding.proofs.Laws.Encoded.{EncodeTaken, asked-framed, encode-taken, encoded-is, encoded_room-is, encoded-refused, encoded_room-refused}
 use Rattle.encoding.proofs.encode.Goals as goal
 
 -- where the frame is accepted, and the readings were all taken, to the front of a room

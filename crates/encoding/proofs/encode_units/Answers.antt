@@ -11,10 +11,10 @@ use Rattle.refusals.specs.Laws.Verdicts.{first-accepted}
 use Rattle.refusals.specs.Verdicts.{first_refusal}
 use Rattle.layers.specs.Code.{code8, eight_of}
 use Rattle.records.specs.Eight.Codes.{Coder, code_length}
-use Rattle.records.specs.Eight.Hours.{units-sound, units-taken}
+use Rattle.records.proofs.Eight.Hours.{units-sound, units-taken}
 use Rattle.records.specs.Eight.Vectors.{units_hour, check_readings, units_taken, in_blocks, UnitsTaken}
 use Rattle.encoding.specs.Encode.{check_fits, code_record, encode_asked}
-use Rattle.encoding.specs.Laws.Encoded.{EncodeTaken, encode-taken, encoded-is, encoded_room-is, encoded-refused, encoded_room-refused}
+use Rattle.encoding.proofs.Laws.Encoded.{EncodeTaken, encode-taken, encoded-is, encoded_room-is, encoded-refused, encoded_room-refused}
 use Rattle.encoding.proofs.encode_units.Goals as goal
 
 -- where nothing is refused before coding

@@ -31,7 +31,7 @@ use Rattle.refusals.specs.Verdicts.{spot_of, place_of, unless, first_refusal}
 use Rattle.records.specs.Eight.Codes.{IsBlock, block_size, code_length}
 use Rattle.records.specs.Frames.{whole_blocks}
 use Rattle.records.specs.Eight.Asked.{CoderTaken, coder-taken, coder-positive, steps-positive}
-use Rattle.records.specs.Eight.Hours.{units-taken}
+use Rattle.records.proofs.Eight.Hours.{units-taken}
 use Rattle.records.specs.Eight.Vectors.{Hour, units_hour, check_readings, units_taken, blocks_of, in_blocks}
 use Rattle.layers.specs.Code.{code8, eight_of}
 use Rattle.encoding.specs.Encode.{check_fits, code_bytes, code_record, encode_asked, check_encode, encoded, encoded_room}

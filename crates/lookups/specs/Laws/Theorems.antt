@@ -5,7 +5,7 @@ use Rattle.layers.specs.Digits.{IsCode}
 use Rattle.records.specs.Eight.Codes.{blocks_in, code_blocks}
 use Rattle.records.specs.Laws.Frames.{blocks-whole}
 use Rattle.records.specs.Frames.{Whole}
-use Rattle.records.specs.Eight.Hours.{Sound}
+use Rattle.records.proofs.Eight.Hours.{Sound}
 use Rattle.records.specs.Eight.Vectors.{Hour, units_taken, blocks_of}
 use Rattle.refusals.specs.declared.settings.Settings.{Settings}
 use Rattle.refusals.specs.declared.Refusal.TheVariants.{Table, Size}

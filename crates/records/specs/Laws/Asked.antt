@@ -8,7 +8,7 @@ use Rattle.refusals.specs.declared.Verdict.{Verdict}
 use Rattle.refusals.specs.declared.Verdict.TheVariants.{Accepted, Refused}
 use Rattle.refusals.specs.Laws.Allowed.{steps-allowed}
 use Rattle.refusals.specs.Laws.Verdicts.{refused-never, unless-accepted, first-accepted, first-last}
-use Rattle.refusals.specs.Settings.{check_settings, Allowed}
+use Rattle.refusals.specs.Settings.{check_settings}
 use Rattle.refusals.specs.Steps.{check_steps, AllowedSteps}
 use Rattle.refusals.specs.Verdicts.{first_refusal}
 use Rattle.blocks.specs.Laws.Sizes.{divisor-positive}

@@ -34,7 +34,7 @@ use Rattle.layers.specs.Code.{code8}
 use Rattle.encoding.specs.Encode.{check_fits}
 use Rattle.records.specs.Eight.Asked.{CoderTaken, coder-taken, coder-positive, steps-positive}
 use Rattle.encoding.specs.Laws.Encode.{fits-none}
-use Rattle.records.specs.Eight.Hours.{units-sound, units_small, units-taken}
+use Rattle.records.proofs.Eight.Hours.{units-sound, units_small, units-taken}
 use Rattle.reports.specs.Report.{check_report, block_report, reported, report, check_given, Reportables}
 use Rattle.records.specs.Eight.Vectors.{units_hour, check_readings}
 

@@ -2,7 +2,7 @@ use Rattle.std.specs.Prelude.{◌≡◌, List, [], ℕ, ◌<◌, ℤ, get_or}
 use Rattle.layers.specs.Code.{code8}
 use Rattle.records.specs.Eight.Asked.{RecordTaken}
 use Rattle.records.specs.Eight.Codes.{IsBlock, block_size, blocks_in, code_blocks}
-use Rattle.records.specs.Eight.Hours.{Sound}
+use Rattle.records.proofs.Eight.Hours.{Sound}
 use Rattle.records.specs.Eight.Vectors.{Hour, fvecs_hour}
 use Rattle.records.specs.Frames.{Framed}
 use Rattle.refusals.specs.declared.settings.Settings.{Settings}

@@ -1,6 +1,6 @@
 use Rattle.std.specs.Prelude.{◌≡◌, List, ℕ, ◌/◌, ℤ, pos, nat_abs, length}
 use Rattle.layers.specs.Code.{eight_of}
-use Rattle.records.specs.Eight.Hours.{Sound}
+use Rattle.records.proofs.Eight.Hours.{Sound}
 use Rattle.records.specs.Eight.Vectors.{Hour, units_taken, blocks_of}
 use Rattle.refusals.specs.declared.settings.Settings.{Settings}
 use Rattle.refusals.specs.declared.Refusal.{Refusal}

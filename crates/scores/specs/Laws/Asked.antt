@@ -8,7 +8,7 @@ use Rattle.records.specs.Codes.{IsBlock, block_size, blocks_in, code_blocks, che
 use Rattle.records.specs.Frames.{whole_blocks, good_record, Framed}
 use Rattle.records.specs.Laws.Asked.{coder-taken, record-taken}
 use Rattle.records.specs.Laws.Frames.{record-framed}
-use Rattle.records.specs.Laws.Hours.{Sound, units_small, taken-all}
+use Rattle.records.proofs.Laws.Hours.{Sound, units_small, taken-all}
 use Rattle.records.specs.Laws.Parts.{cut_at}
 use Rattle.records.specs.Vectors.{Hour, fvecs_hour, check_readings, units_taken, UnitsTaken}
 use Rattle.refusals.specs.declared.settings.Settings.{Settings}

@@ -5,7 +5,7 @@ use Rattle.std.proofs.Common.{◌∙◌}
 use mathlib.Core.List.{List, [], ◌∷◌}
 use Rattle.layers.specs.Code.{Code, size_of}
 use Rattle.records.specs.Codes.{RecordTaken}
-use Rattle.records.specs.Laws.Hours.{Sound}
+use Rattle.records.proofs.Laws.Hours.{Sound}
 use Rattle.records.specs.Vectors.{Hour, check_readings, units_taken, blocks_of}
 use Rattle.refusals.specs.declared.settings.Settings.{Settings}
 use Rattle.refusals.specs.declared.Refusal.{Refusal}

@@ -23,9 +23,9 @@ use Rattle.layers.specs.Code.{Code, size_of, eight_of}
 use Rattle.records.specs.Codes.{IsBlock, block_size, blocks_in, code_blocks, step_of, whole_point}
 use Rattle.records.specs.Laws.Frames.{blocks-whole}
 use Rattle.records.specs.Frames.{Whole}
-use Rattle.records.specs.Laws.Hours.{Sound, fvecs-count, fvecs-reading, word-missing}
+use Rattle.records.proofs.Laws.Hours.{Sound, fvecs-count, fvecs-reading, word-missing}
 use Rattle.records.specs.Laws.Parts.{cut-long, cut_at}
-use Rattle.records.specs.Laws.Vectors.{AllUnits, first-missing, first-beyond}
+use Rattle.records.proofs.Laws.Vectors.{AllUnits, first-missing, first-beyond}
 use Rattle.records.specs.Vectors.{Hour, fvecs_hour, units_taken, blocks_of, in_blocks}
 use Rattle.refusals.specs.declared.settings.Settings.{Settings}
 use Rattle.refusals.specs.declared.Refusal.TheVariants.{Missing, OutOfRange}

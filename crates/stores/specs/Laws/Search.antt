@@ -3,7 +3,7 @@ use Rattle.std.specs.Prelude.{◌≡◌, refl, ℕ, ◌/◌, ℤ, nat_abs, lengt
 use Rattle.std.proofs.Common.{sym, ◌∙◌}
 use Rattle.std.proofs.Math.Path.{ap, ap₂}
 use mathlib.Core.List.{List, [], ◌∷◌}
-use Rattle.records.specs.Eight.Hours.{Sound}
+use Rattle.records.proofs.Eight.Hours.{Sound}
 use Rattle.records.specs.Eight.Vectors.{Hour, check_readings, units_taken, blocks_of}
 use Rattle.refusals.specs.declared.settings.Settings.{Settings}
 use Rattle.refusals.specs.declared.Refusal.{Refusal}

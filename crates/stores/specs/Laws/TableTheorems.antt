@@ -7,8 +7,8 @@ use Rattle.std.proofs.Math.ListN.{drop}
 use Rattle.readings.specs.declared.Measured.{Measured}
 use Rattle.readings.specs.declared.Measured.TheVariants as measured
 use Rattle.records.specs.Eight.Codes.{code_length}
-use Rattle.records.specs.Eight.Hours.{Sound}
-use Rattle.records.specs.Laws.Vectors.{AllUnits, first-missing, first-beyond}
+use Rattle.records.proofs.Eight.Hours.{Sound}
+use Rattle.records.proofs.Laws.Vectors.{AllUnits, first-missing, first-beyond}
 use Rattle.records.specs.Eight.Vectors.{Hour, check_readings, units_taken, blocks_of}
 use Rattle.refusals.specs.declared.settings.Settings.{Settings}
 use Rattle.refusals.specs.declared.Refusal.{Refusal}

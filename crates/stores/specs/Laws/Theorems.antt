@@ -13,9 +13,9 @@ use Rattle.readings.specs.declared.Measured.{Measured}
 use Rattle.readings.specs.declared.Measured.TheVariants as measured
 use Rattle.readings.specs.Words.{word_at, measure_at}
 use Rattle.records.specs.Eight.Codes.{code_length}
-use Rattle.records.specs.Eight.Hours.{Sound, fvecs-count, fvecs-reading, word-missing}
+use Rattle.records.proofs.Eight.Hours.{Sound, fvecs-count, fvecs-reading, word-missing}
 use Rattle.records.specs.Laws.Parts.{cut-long, cut_at}
-use Rattle.records.specs.Laws.Vectors.{AllUnits, first-missing, first-beyond}
+use Rattle.records.proofs.Laws.Vectors.{AllUnits, first-missing, first-beyond}
 use Rattle.records.specs.Eight.Vectors.{Hour, fvecs_hour, units_taken, blocks_of}
 use Rattle.refusals.specs.declared.Answer.{Answer}
 use Rattle.refusals.specs.declared.settings.Settings.{Settings}

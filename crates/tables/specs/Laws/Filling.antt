@@ -6,7 +6,7 @@ use mathlib.Core.List.{List, [], ◌∷◌}
 use Rattle.coding.specs.Laws.Asked.{checked-allowed}
 use Rattle.records.specs.Frames.{whole_blocks, Framed}
 use Rattle.records.specs.Laws.Frames.{record-framed}
-use Rattle.records.specs.Eight.Hours.{Sound, units_small, taken-all}
+use Rattle.records.proofs.Eight.Hours.{Sound, units_small, taken-all}
 use Rattle.records.specs.Eight.Vectors.{Hour, fvecs_hour, check_readings, units_taken, blocks_of, UnitsTaken}
 use Rattle.refusals.specs.declared.settings.Settings.{Settings}
 use Rattle.refusals.specs.declared.Refusal.{Refusal}

@@ -9,8 +9,8 @@ use Rattle.integers.specs.Vectors.{«at», dot}
 use Rattle.readings.specs.declared.Measured.{Measured}
 use Rattle.readings.specs.declared.Measured.TheVariants as measured
 use Rattle.readings.specs.Words.{word_at, measure_at}
-use Rattle.records.specs.Eight.Hours.{Sound, fvecs-count, fvecs-reading, word-missing}
-use Rattle.records.specs.Laws.Vectors.{AllUnits, first-missing, first-beyond}
+use Rattle.records.proofs.Eight.Hours.{Sound, fvecs-count, fvecs-reading, word-missing}
+use Rattle.records.proofs.Laws.Vectors.{AllUnits, first-missing, first-beyond}
 use Rattle.records.specs.Eight.Vectors.{Hour, fvecs_hour, check_readings, units_taken, blocks_of}
 use Rattle.refusals.specs.declared.settings.Settings.{Settings}
 use Rattle.refusals.specs.declared.Refusal.{Refusal}

@@ -4,7 +4,7 @@ use mir.Syntax.{w32}
 use mir.Val.{to_z, of_z}
 use Rattle.readings.specs.Words.{measure_at}
 use Rattle.records.specs.Vectors.{fvecs_readings}
-use Rattle.records.specs.Laws.Vectors.{Taking, taking-next, taking-done, reading-missing, reading-beyond}
+use Rattle.records.proofs.Laws.Vectors.{Taking, taking-next, taking-done, reading-missing, reading-beyond}
 use Rattle.records.proofs.vectors.take_readings.Invariants.{from}
 use Rattle.records.proofs.vectors.take_readings.Goals as goal
 

@@ -4,7 +4,7 @@ use Rattle.integers.specs.Vectors.{range}
 use Rattle.readings.specs.declared.Measured.{Measured}
 use Rattle.readings.specs.Words.{measure_at}
 use Rattle.records.specs.Vectors.{fvecs_readings}
-use Rattle.records.specs.Laws.Vectors.{Taking}
+use Rattle.records.proofs.Laws.Vectors.{Taking}
 use Rattle.records.proofs.vectors.take_readings.Given as goal
 
 -- the readings from i on, k of them

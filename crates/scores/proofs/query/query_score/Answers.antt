@@ -8,7 +8,7 @@ use lib.IntN.{ℤ, nat_abs}
 use lib.ListN.{length, take, drop, length-append}
 use lib.Seq.{take_at}
 use Rattle.integers.specs.Vectors.{zeros}
-use Rattle.records.specs.Eight.Hours.{fvecs-sound, fvecs-count}
+use Rattle.records.proofs.Eight.Hours.{fvecs-sound, fvecs-count}
 use Rattle.records.specs.Eight.Vectors.{Hour, fvecs_hour, units_taken, UnitsTaken}
 use Rattle.refusals.specs.declared.Verdict.TheVariants.{Accepted}
 use Rattle.refusals.specs.Answers.{valued}

@@ -5,7 +5,7 @@ use mathlib.Core.List.{List}
 use lib.IntN.{ℤ}
 use lib.ListN.{length-map}
 use Rattle.readings.specs.Taking.{measure_units}
-use Rattle.records.specs.Eight.Hours.{units-sound, units-taken}
+use Rattle.records.proofs.Eight.Hours.{units-sound, units-taken}
 use Rattle.records.specs.Eight.Vectors.{Hour, units_hour, units_taken, UnitsTaken}
 use Rattle.refusals.specs.declared.Verdict.TheVariants.{Accepted}
 use Rattle.scores.specs.Hours.{check_hour}

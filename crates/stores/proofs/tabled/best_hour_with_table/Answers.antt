@@ -9,7 +9,7 @@ use lib.ListN.{length, take, length-append}
 use lib.Seq.{take_at}
 use Rattle.records.specs.Laws.Frames.{record-framed}
 use Rattle.records.specs.Frames.{Framed}
-use Rattle.records.specs.Eight.Hours.{fvecs-sound, fvecs-count, taken-all}
+use Rattle.records.proofs.Eight.Hours.{fvecs-sound, fvecs-count, taken-all}
 use Rattle.records.specs.Eight.Vectors.{Hour, fvecs_hour, check_readings, units_taken}
 use Rattle.refusals.specs.declared.Refusal.TheVariants.{Record}
 use Rattle.refusals.specs.declared.settings.Settings.{Settings}

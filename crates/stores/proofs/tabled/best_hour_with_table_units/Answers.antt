@@ -5,7 +5,7 @@ use Prim.Native.Nat.{ℕ}
 use lib.IntN.{ℤ}
 use lib.ListN.{length, length-map}
 use Rattle.readings.specs.Taking.{measure_units}
-use Rattle.records.specs.Eight.Hours.{units-sound, units-taken}
+use Rattle.records.proofs.Eight.Hours.{units-sound, units-taken}
 use Rattle.records.specs.Eight.Vectors.{Hour, units_hour, check_readings, units_taken}
 use Rattle.refusals.specs.declared.settings.Settings.{Settings}
 use Rattle.refusals.specs.declared.Verdict.{Verdict}

@@ -9,7 +9,7 @@ use lib.IntN.{nat_abs}
 use Rattle.readings.specs.Words.{word_at}
 use Rattle.records.specs.Frames.{good_record, Framed}
 use Rattle.records.specs.Laws.Frames.{record-framed}
-use Rattle.records.specs.Eight.Hours.{fvecs-count}
+use Rattle.records.proofs.Eight.Hours.{fvecs-count}
 use Rattle.records.specs.Eight.Vectors.{fvecs_hour}
 use Rattle.refusals.specs.declared.Refusal.TheVariants.{Record}
 use Rattle.refusals.specs.declared.Verdict.{Verdict}

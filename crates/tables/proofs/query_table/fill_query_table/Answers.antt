@@ -13,7 +13,7 @@ use mir.Facts.{to_z-of_z}
 use Rattle.coding.specs.Laws.Asked.{allowed-base}
 use Rattle.layers.specs.Sizes.{Base}
 use Rattle.records.specs.Frames.{Framed}
-use Rattle.records.specs.Eight.Hours.{fvecs-sound, fvecs-count}
+use Rattle.records.proofs.Eight.Hours.{fvecs-sound, fvecs-count}
 use Rattle.records.specs.Eight.Vectors.{Hour, fvecs_hour, check_readings, units_taken, UnitsTaken}
 use Rattle.refusals.specs.declared.Verdict.{Verdict}
 use Rattle.refusals.specs.declared.Verdict.TheVariants.{Accepted}

@@ -10,7 +10,7 @@ use mir.Facts.{to_z-of_z}
 use Rattle.coding.specs.Laws.Asked.{allowed-base}
 use Rattle.layers.specs.Sizes.{Base}
 use Rattle.readings.specs.Taking.{measure_units}
-use Rattle.records.specs.Eight.Hours.{units-sound, units-taken}
+use Rattle.records.proofs.Eight.Hours.{units-sound, units-taken}
 use Rattle.records.specs.Eight.Vectors.{Hour, units_hour, units_taken, UnitsTaken}
 use Rattle.refusals.specs.declared.Verdict.{Verdict}
 use Rattle.refusals.specs.declared.Verdict.TheVariants.{Accepted}

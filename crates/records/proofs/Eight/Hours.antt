@@ -1,9 +1,9 @@
 use Rattle.std.specs.Prelude.{◌≡◌, List, ℕ, ◌+◌, ◌*◌, ◌<◌, ℤ, length, get_or}
 use Rattle.readings.specs.declared.Measured.{Measured}
 use Rattle.readings.specs.Words.{word_at, measure_at}
-use Rattle.records.specs.Laws.Hours as hours
+use Rattle.records.proofs.Laws.Hours as hours
 use Rattle.records.specs.Eight.Vectors.{Hour, units_hour, fvecs_hour}
-pub use Rattle.records.specs.Laws.Hours.{Ranged, units_small, taken-all, units-taken, word-missing}
+pub use Rattle.records.proofs.Laws.Hours.{Ranged, units_small, taken-all, units-taken, word-missing}
 
 abbrev pub Sound : Hour → Type 0
 Sound h = hours.Sound 8 h

@@ -14,10 +14,10 @@ use Rattle.refusals.specs.declared.Verdict.TheVariants.{Accepted, Refused}
 use Rattle.refusals.specs.Laws.Verdicts.{first-accepted}
 use Rattle.layers.specs.Code.{Code, size_of}
 use Rattle.encoding.specs.Encode.{check_fits, encode_asked, check_encode}
-use Rattle.encoding.specs.Laws.Encoded.{encode-refused, encode-last}
+use Rattle.encoding.proofs.Laws.Encoded.{encode-refused, encode-last}
 use Rattle.encoding.specs.Laws.Fitting.{AllFitted, accepted-iff}
-use Rattle.records.specs.Laws.Hours.{fvecs-count, fvecs-reading, word-missing}
-use Rattle.records.specs.Laws.Vectors.{AllUnits, first-missing, first-beyond}
+use Rattle.records.proofs.Laws.Hours.{fvecs-count, fvecs-reading, word-missing}
+use Rattle.records.proofs.Laws.Vectors.{AllUnits, first-missing, first-beyond}
 use Rattle.records.specs.Vectors.{Hour, fvecs_hour, check_readings, units_taken, in_blocks}
 
 module _ (C : Code) (c : Settings) (steps : List ℤ) (h : Hour) (room : ℕ) where

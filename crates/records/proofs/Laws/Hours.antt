@@ -18,7 +18,7 @@ use Rattle.refusals.specs.Laws.Verdicts.{refused-never, unless-accepted}
 use Rattle.refusals.specs.Limits.{blocks_most}
 use Rattle.records.specs.Frames.{whole_blocks}
 use Rattle.records.specs.Laws.Frames.{record-whole}
-use Rattle.records.specs.Laws.Vectors.{readings-all}
+use Rattle.records.proofs.Laws.Vectors.{readings-all}
 use Rattle.records.specs.Vectors.{Hour, units_hour, fvecs_hour, check_readings, units_taken}
 
 -- every reading that there is is in range

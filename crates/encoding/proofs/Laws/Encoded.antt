@@ -21,7 +21,7 @@ use Rattle.encoding.specs.Encode.{check_fits, code_record, encode_asked, check_e
 use Rattle.records.specs.Frames.{whole_blocks, Framed}
 use Rattle.records.specs.Laws.Asked.{coder-taken}
 use Rattle.records.specs.Laws.Frames.{record-framed}
-use Rattle.records.specs.Laws.Hours.{Sound, units_small, taken-all}
+use Rattle.records.proofs.Laws.Hours.{Sound, units_small, taken-all}
 use Rattle.records.specs.Vectors.{Hour, fvecs_hour, check_readings, units_taken, blocks_of, in_blocks, UnitsTaken}
 
 -- what was asked for is allowed, and every reading was taken

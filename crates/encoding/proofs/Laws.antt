@@ -1,0 +1,3 @@
+-- Proved facts of encoding.
+pub mod Encoded
+pub mod Theorems

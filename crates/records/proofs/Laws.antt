@@ -1,0 +1,3 @@
+-- Proved facts of records.
+pub mod Vectors
+pub mod Hours
