@@ -2,7 +2,6 @@
 use mathlib.Core.Path.{sym, ◌∙◌, ap}
 use Prim.Native.Nat.{ℕ}
 use native.Mathlib.Omega.{arith}
-use borrow.Author.Rules.{rules}
 use lib.Ieee.{Float, of_bits}
 use Rattle.readings.proofs.Laws.Exact.{fraction-zero}
 use Rattle.enkhovrag.specs.declared.answers.EkTaken.{EkTaken}
@@ -13,13 +12,10 @@ use Rattle.enkhovrag.proofs.answers.taken_out.Goals as goal
 none : ℕ → Float → EkTaken
 none n v = record { number = n; value = v }
 
-pub returns-in-Value : goal.returns-in-Value
-returns-in-Value c = sym (ap taken_out c.before.t-1.given.1)
-
 pub returns-in-Missing : goal.returns-in-Missing
 unfolding none of_bits
-returns-in-Missing c = sym (ap taken_out c.enum_told-1.given.1 ∙ ap (none 4) (fraction-zero 1024 (omega arith)))
+returns-in-Missing c = sym (ap taken_out c.in-Missing.is ∙ ap (none 4) (fraction-zero 1024 (omega arith)))
 
 pub returns-in-OutOfRange : goal.returns-in-OutOfRange
 unfolding none of_bits
-returns-in-OutOfRange c = sym (ap taken_out c.enum_told-in-OutOfRange-1.given.1 ∙ ap (none 5) (fraction-zero 1024 (omega arith)))
+returns-in-OutOfRange c = sym (ap taken_out c.in-OutOfRange.is ∙ ap (none 5) (fraction-zero 1024 (omega arith)))

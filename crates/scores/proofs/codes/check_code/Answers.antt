@@ -17,74 +17,52 @@ use Rattle.records.specs.Eight.Asked.{frame-holds}
 use Rattle.records.specs.Laws.Frames.{record-framed}
 use Rattle.scores.specs.Eight.Scores.{check_code}
 use Rattle.scores.proofs.codes.check_code.Goals as goal
-use Rattle.scores.proofs.codes.check_code.Goals.{After-blocks_in-k, After-good_record, Start, Then-good_record}
+use Rattle.scores.proofs.codes.check_code.Goals.{After-good_record}
 
 -- the frame is tested
 module _ (c : After-good_record) where
-  abbrev s : Start
-  s = c.before.before.before
-
-  abbrev m : ℕ
-  m = s.args.m
-
   abbrev b : List ℕ
-  b = s.args.b.now
+  b = c.args.b.now
 
   abbrev bytes : Verdict
-  bytes = check_blocks s.args.steps s.args.q (block_size m) s.args.first (code_blocks m b)
+  bytes = check_blocks c.args.steps c.args.q (block_size c.args.m) c.args.first (code_blocks c.args.m b)
 
-  size_is : c.before.block_size-size.result ≡ block_size m
-  size_is = c.before.block_size-size.ensures
-
-  framed : good_record 1 (block_size m) s.args.least s.args.most b ≡ c.good_record.result
-  framed = ap (λ (n : ℕ). good_record 1 n s.args.least s.args.most b) (sym size_is) ∙ sym c.good_record.ensures
+  framed : good_record 1 (block_size c.args.m) c.args.least c.args.most b ≡ c.good_record.result
+  framed = ap (λ (n : ℕ). good_record 1 n c.args.least c.args.most b) (sym c.block_size-size.ensures) ∙ sym c.good_record.ensures
 
   decided : (f : Bool) → c.good_record.result ≡ f
-      → check_code s.args.steps s.args.q m s.args.least s.args.most s.args.place s.args.first b ≡ first_refusal (unless f (Record s.args.place) ∷ bytes ∷ [])
+      → check_code c.args.steps c.args.q c.args.m c.args.least c.args.most c.args.place c.args.first b ≡ first_refusal (unless f (Record c.args.place) ∷ bytes ∷ [])
   unfolding Rattle.scores.specs.Scores.check_code
-  decided f e = ap (λ (f : Bool). first_refusal (unless f (Record s.args.place) ∷ bytes ∷ [])) (framed ∙ e)
+  decided f e = ap (λ (f : Bool). first_refusal (unless f (Record c.args.place) ∷ bytes ∷ [])) (framed ∙ e)
 
--- it is good
-module _ (c : Then-good_record) where
-  abbrev g : After-good_record
-  g = c.before
-
-  frame : Framed 1 (block_size (m g)) (s g).args.least (s g).args.most (b g)
-  frame = record-framed 1 (block_size (m g)) (s g).args.least (s g).args.most (b g) (framed g ∙ c.if-good_record.true)
-
-k-is : (c : After-blocks_in-k) → c.blocks_in-k.result ≡ blocks_in (m (g c.before)) (b (g c.before))
-k-is c = c.blocks_in-k.ensures
-
-pub block_size-size-requires : goal.block_size-size-requires
-block_size-size-requires c = c.before.requires.0
-
-pub good_record-requires : goal.good_record-requires
-good_record-requires c = (omega (arith, c.block_size-size.ensures), omega arith)
+  -- it is good
+  frame : c.good_record.result ≡ true → Framed 1 (block_size c.args.m) c.args.least c.args.most b
+  frame e = record-framed 1 (block_size c.args.m) c.args.least c.args.most b (framed ∙ e)
 
 pub blocks_in-k-requires : goal.blocks_in-k-requires
-blocks_in-k-requires c = ((s (g c)).requires.0, (frame c).there)
+blocks_in-k-requires c = (c.requires.0, (frame (goal.at.blocks_in-k-requires c).After-good_record c.if-good_record.true).there)
 
 pub slice_bounds-check_blocks-count : goal.slice_bounds-check_blocks-count
-slice_bounds-check_blocks-count c = omega (arith, (frame c.before).there)
+slice_bounds-check_blocks-count c = omega (arith, (frame (goal.at.slice_bounds-check_blocks-count c).After-good_record c.if-good_record.true).there)
 
 pub slice_bounds-check_blocks-start : goal.slice_bounds-check_blocks-start
-slice_bounds-check_blocks-start c = omega (arith, (frame c.before).there)
+slice_bounds-check_blocks-start c = omega (arith, (frame (goal.at.slice_bounds-check_blocks-start c).After-good_record c.if-good_record.true).there)
 
 pub check_blocks-requires : goal.check_blocks-requires
-check_blocks-requires c = let k = c.before in let t = k.before in let a = g t in
-    let holds : block_size (m a) * blocks_in (m a) (b a) ≤ length (drop 4 (b a)) = frame-holds (m a) (s a).args.least (s a).args.most (b a) (frame t) in
-    rw (rest-whole 4 (b a)) (
-      omega (arith, size_is a),
-      subst₂ (λ (n k : ℕ). n * k ≤ length (drop 4 (b a))) (sym (size_is a)) (sym (k-is k)) holds,
-      simp length-drop (omega (arith, (s a).requires.1)),
+check_blocks-requires c =
+    let holds : block_size c.args.m * blocks_in c.args.m c.args.b.now ≤ length (drop 4 c.args.b.now) = frame-holds c.args.m c.args.least c.args.most c.args.b.now (frame (goal.at.check_blocks-requires c).After-good_record c.if-good_record.true) in
+    rw (rest-whole 4 c.args.b.now) (
+      omega (arith, c.block_size-size.ensures),
+      subst₂ (λ (n k : ℕ). n * k ≤ length (drop 4 c.args.b.now)) (sym c.block_size-size.ensures) (sym c.blocks_in-k.ensures) holds,
+      simp length-drop (omega (arith, c.requires.1)),
     )
 
 pub returns-then-good_record : goal.returns-then-good_record
-returns-then-good_record c = let k = c.before.before in let a = g k.before in let v = (s a).args in
+returns-then-good_record c = let a = (goal.at.returns-then-good_record c).After-good_record in let v = c.args in
     c.check_blocks.ensures
-    ∙ ap (λ (f : List ℕ). check_blocks v.steps v.q a.before.block_size-size.result v.first (cut a.before.block_size-size.result k.blocks_in-k.result f)) (rest-whole 4 (b a))
-    ∙ ap₂ (λ (n k : ℕ). check_blocks v.steps v.q n v.first (cut n k (drop 4 (b a)))) (size_is a) (k-is k)
-    ∙ sym (decided a true k.before.if-good_record.true ∙ first-last (bytes a))
+    ∙ ap (λ (f : List ℕ). check_blocks v.steps v.q c.block_size-size.result v.first (cut c.block_size-size.result c.blocks_in-k.result f)) (rest-whole 4 v.b.now)
+    ∙ ap₂ (λ (n k : ℕ). check_blocks v.steps v.q n v.first (cut n k (drop 4 v.b.now))) c.block_size-size.ensures c.blocks_in-k.ensures
+    ∙ sym (decided a true c.if-good_record.true ∙ first-last (bytes a))
 
 pub returns-else-good_record : goal.returns-else-good_record
-returns-else-good_record c = sym (decided c.before _ c.if-good_record.false)
+returns-else-good_record c = sym (decided (goal.at.returns-else-good_record c).After-good_record _ c.if-good_record.false)

@@ -1,5 +1,5 @@
 -- `column_dot` adds the products with the column's entries up: after j turns t is the inner product of the first j entries of each.
-use mathlib.Core.Path.{◌≡◌, refl, sym, ◌∙◌, ap, ap₂, subst}
+use mathlib.Core.Path.{◌≡◌, sym, ◌∙◌, ap, ap₂, subst}
 use mathlib.Core.List.{List, []}
 use Prim.Native.Nat.{ℕ, suc, ◌-◌, ◌^◌, ◌≤◌}
 use native.Mathlib.Numerals.{add-one}
@@ -8,7 +8,7 @@ use lib.IntN.{ℤ, pos, nat_abs, ◌+ℤ◌, ◌*ℤ◌}
 use lib.ListN.{get_or, take, length-map}
 use lib.Seq.{take_all}
 use mir.Syntax.{w16, w32, w64}
-use mir.Val.{SFits, to_z}
+use mir.Val.{SFits}
 use mir.Facts.{to_z-of_z}
 use Rattle.integers.specs.Laws.Loops.{map_at}
 use Rattle.integers.specs.Laws.Sizes.{fits-mag, fits-abs, fits-mul}
@@ -67,30 +67,6 @@ module _ (l : In-loop-j) where
 
   ft : SFits w64 (dot (take j X) (take j e) +ℤ «at» X j *ℤ y)
   ft = subst (SFits w64) next (fits-abs _ (omega (arith, dot-bound (2 ^ 24) (2 ^ 14 - 1) X e s.requires.0.small s.requires.1.small (suc j), l.loop-j-test.true)))
-
-pub loop-j-init : goal.loop-j-init
-loop-j-init c = (omega arith, refl)
-
-pub bounds-x-j : goal.bounds-x-j
-bounds-x-j c = omega (arith, (s c).requires.0.long, c.loop-j-test.true)
-
-pub overflow_cast-t : goal.overflow_cast-t
-overflow_cast-t c = let l = c.before in simp (to_z-of_z, gx l) (fx l)
-
-pub offset_bounds-e-b : goal.offset_bounds-e-b
-offset_bounds-e-b c = omega (arith, (s c.before).requires.2)
-
-pub bounds-e-j : goal.bounds-e-j
-bounds-e-j c = c.before.loop-j-test.true
-
-pub bounds-e-b : goal.bounds-e-b
-bounds-e-b c = (s c.before).requires.2
-
-pub overflow_cast-t-in-loop-j : goal.overflow_cast-t-in-loop-j
-overflow_cast-t-in-loop-j c = let l = c.before.before in simp (to_z-of_z, gy l) (fy l)
-
-pub overflow_mul-t : goal.overflow_mul-t
-overflow_mul-t c = let l = c.before.before in simp (to_z-of_z, gx l, gy l, fx l, fy l) (fxy l)
 
 pub overflow_add-t : goal.overflow_add-t
 overflow_add-t c = let l = c.before.before in simp (to_z-of_z, gx l, gy l, fx l, fy l, fxy l, l.before.loop-j.invariant.1) (ft l)

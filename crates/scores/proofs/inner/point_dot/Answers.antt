@@ -1,14 +1,14 @@
 -- `point_dot` adds the products up: after i turns t is the inner product of the first i entries of each.
-use mathlib.Core.Path.{◌≡◌, refl, ◌∙◌, ap₂}
+use mathlib.Core.Path.{◌∙◌, ap₂}
 use mathlib.Core.List.{List}
-use Prim.Native.Nat.{ℕ, suc, ◌-◌, ◌^◌, ◌≤◌}
+use Prim.Native.Nat.{ℕ, suc, ◌-◌, ◌^◌}
 use native.Mathlib.Numerals.{add-one}
 use native.Mathlib.Omega.{arith}
 use lib.IntN.{ℤ, ◌+ℤ◌, ◌*ℤ◌}
 use lib.ListN.{take}
 use lib.Seq.{take_all}
 use mir.Syntax.{w16, w32, w64}
-use mir.Val.{SFits, to_z}
+use mir.Val.{SFits}
 use mir.Facts.{to_z-of_z}
 use Rattle.integers.specs.Laws.Sizes.{fits-mag, fits-abs, fits-mul}
 use Rattle.integers.specs.Laws.Sums.{dot-take-suc, dot-bound}
@@ -46,21 +46,6 @@ module _ (l : In-loop-i) where
 
   ft : SFits w64 (dot (take i a) (take i b) +ℤ «at» a i *ℤ «at» b i)
   ft = rw (← dot-take-suc a b i) (fits-abs _ (omega (arith, dot-bound (2 ^ 24) (2 ^ 14 - 1) a b s.requires.0.small s.requires.1.small (suc i))))
-
-pub loop-i-init : goal.loop-i-init
-loop-i-init c = (omega arith, refl)
-
-pub bounds-x-i : goal.bounds-x-i
-bounds-x-i c = omega (arith, (s c).requires.0.long)
-
-pub overflow_cast-t : goal.overflow_cast-t
-overflow_cast-t c = let l = c.before in simp (to_z-of_z, gx l) (fx l)
-
-pub overflow_cast-t-in-loop-i : goal.overflow_cast-t-in-loop-i
-overflow_cast-t-in-loop-i c = let l = c.before.before in simp (to_z-of_z, gy l) (fy l)
-
-pub overflow_mul-t : goal.overflow_mul-t
-overflow_mul-t c = let l = c.before.before in simp (to_z-of_z, gx l, gy l, fx l, fy l) (fxy l)
 
 pub overflow_add-t : goal.overflow_add-t
 overflow_add-t c = let l = c.before.before in simp (to_z-of_z, gx l, gy l, fx l, fy l, fxy l, l.before.loop-i.invariant.1) (ft l)

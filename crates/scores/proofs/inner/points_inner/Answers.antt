@@ -25,12 +25,6 @@ module _ (c : After-points_dot) where
   gq : SFits w64 (shr_z z 4)
   gq = record { sfits = omega (arith, mag_shr z 4, fz.sfits) }
 
-pub points_dot-requires : goal.points_dot-requires
-points_dot-requires c = c.requires
-
-pub overflow_cast-result : goal.overflow_cast-result
-overflow_cast-result c = simp (to_z-of_z, fz c, fq c) (gq c)
-
 pub returns : goal.returns
 unfolding inner
 returns c = simp (to_z-of_z, fz c, fq c, gq c) (floor_div-shr (z c) 4 ∙ ap (λ (z : ℤ). floor_div z 4) c.points_dot.ensures)

@@ -1,5 +1,4 @@
 -- `check_pair` is the list of checks: the first two are made as one, and both records as one.
-use borrow.Author.Rules.{rules}
 use mathlib.Core.Path.{◌≡◌, refl, sym, ◌∙◌, ap₂}
 use mathlib.Core.List.{List, [], ◌∷◌}
 use Prim.Native.Nat.{ℕ}
@@ -17,50 +16,43 @@ use Rattle.refusals.specs.Verdicts.{first_refusal}
 use Rattle.scores.specs.Eight.Pair.{pair_is}
 use Rattle.scores.specs.Eight.Scores.{check_code, check_pair}
 use Rattle.scores.proofs.pair.check_pair.Goals as goal
-use Rattle.scores.proofs.pair.check_pair.Goals.{After-check_coder, In-Accepted, Start}
+use Rattle.scores.proofs.pair.check_pair.Goals.{After-check_coder}
 
 module _ (c : After-check_coder) where
-  abbrev s : Start
-  s = c.before.before.before
-
   abbrev b : List ℕ
-  b = s.args.code.now
+  b = c.args.code.now
 
   -- both records, at q and m
   abbrev codes : ℕ → ℕ → Verdict
-  codes q m = first_refusal (check_code (length s.args.steps.now) q m 1 blocks_most 0 0 b ∷ check_code (length s.args.steps2.now) q m (blocks_in m b) (blocks_in m b) 0 0 s.args.code2.now ∷ [])
+  codes q m = first_refusal (check_code (length c.args.steps.now) q m 1 blocks_most 0 0 b ∷ check_code (length c.args.steps2.now) q m (blocks_in m b) (blocks_in m b) 0 0 c.args.code2.now ∷ [])
 
   abbrev whole : Verdict
-  whole = codes (nat_abs s.args.s.q) (nat_abs s.args.s.m)
+  whole = codes (nat_abs c.args.s.q) (nat_abs c.args.s.m)
 
-  decided : (v w : Verdict) → c.check_coder.result ≡ v → check_steps 1 s.args.steps2.now ≡ w
-      → check_pair s.args.s s.args.steps.now b s.args.steps2.now s.args.code2.now ≡ first_refusal (v ∷ w ∷ whole ∷ [])
-  decided v w d e = pair_is s.args.s s.args.steps.now b s.args.steps2.now s.args.code2.now v w (sym c.check_coder.ensures ∙ d) e
+  decided : (v w : Verdict) → c.check_coder.result ≡ v → check_steps 1 c.args.steps2.now ≡ w
+      → check_pair c.args.s c.args.steps.now b c.args.steps2.now c.args.code2.now ≡ first_refusal (v ∷ w ∷ whole ∷ [])
+  decided v w d e = pair_is c.args.s c.args.steps.now b c.args.steps2.now c.args.code2.now v w (sym c.check_coder.ensures ∙ d) e
 
--- the settings and the first list are accepted
-module _ (c : In-Accepted) where
-  abbrev k : After-check_coder
-  k = c.before.before
-
-  taken : CoderTaken (s k).args.s (s k).args.steps.now
-  taken = coder-accepted (s k).args.s (s k).args.steps.now (sym k.check_coder.ensures ∙ c.enum_told-1.given.1)
+  -- the settings and the first list are accepted
+  taken : c.check_coder.result ≡ Accepted → CoderTaken c.args.s c.args.steps.now
+  taken e = coder-accepted c.args.s c.args.steps.now (sym c.check_coder.ensures ∙ e)
 
 pub digit_values-q-requires : goal.digit_values-q-requires
-digit_values-q-requires c = (taken c.before.before.before).allowed
+digit_values-q-requires c = (taken (goal.at.digit_values-q-requires c).After-check_coder c.in-Accepted.is).allowed
 
 pub layers-m-requires : goal.layers-m-requires
-layers-m-requires c = (taken c.before.before.before.before).allowed
+layers-m-requires c = (taken (goal.at.layers-m-requires c).After-check_coder c.in-Accepted.is).allowed
 
 pub check_codes-requires : goal.check_codes-requires
-check_codes-requires c = omega (arith, c.layers-m.ensures, (taken c.before.before.before.before.before).allowed.m-most)
+check_codes-requires c = omega (arith, c.layers-m.ensures, (taken (goal.at.check_codes-requires c).After-check_coder c.in-Accepted.is).allowed.m-most)
 
 pub returns-in-Refused : goal.returns-in-Refused
-returns-in-Refused c = sym (decided c.before.before.before _ _ c.before.r-1.given.1 refl)
+returns-in-Refused c = sym (decided (goal.at.returns-in-Refused c).After-check_coder _ _ c.in-Refused.is refl)
 
 pub returns-in-Refused-check_steps : goal.returns-in-Refused-check_steps
-returns-in-Refused-check_steps c = let t = c.before.before.before in let e = t.before in sym (decided (k e) Accepted _ e.enum_told-1.given.1 (sym t.check_steps.ensures ∙ c.before.r-in-Refused-check_steps-1.given.1))
+returns-in-Refused-check_steps c = sym (decided (goal.at.returns-in-Refused-check_steps c).After-check_coder Accepted _ c.in-Accepted.is (sym c.check_steps.ensures ∙ c.in-Refused-check_steps.is))
 
 pub returns-in-Accepted-check_steps : goal.returns-in-Accepted-check_steps
-returns-in-Accepted-check_steps c = let l = c.before in let d = l.before in let t = d.before.before.before in let e = t.before in let a = k e in
-    c.check_codes.ensures ∙ ap₂ (codes a) d.digit_values-q.ensures l.layers-m.ensures
-    ∙ sym (decided a Accepted Accepted e.enum_told-1.given.1 (sym t.check_steps.ensures ∙ d.before.enum_told-in-Accepted-check_steps-1.given.1) ∙ first-last (whole a))
+returns-in-Accepted-check_steps c = let a = (goal.at.returns-in-Accepted-check_steps c).After-check_coder in
+    c.check_codes.ensures ∙ ap₂ (codes a) c.digit_values-q.ensures c.layers-m.ensures
+    ∙ sym (decided a Accepted Accepted c.in-Accepted.is (sym c.check_steps.ensures ∙ c.in-Accepted-check_steps.is) ∙ first-last (whole a))

@@ -1,5 +1,4 @@
 -- `pair_score` answers what is refused, and else the total over the blocks of both records, of which there are equally many.
-use borrow.Author.Rules.{rules}
 use mathlib.Core.Path.{◌≡◌, refl, sym, ◌∙◌, ap, ap₂, subst, subst₂}
 use mathlib.Core.List.{List}
 use Prim.Native.Nat.{ℕ, ◌-◌}
@@ -19,29 +18,26 @@ use Rattle.scores.specs.Eight.Asked.{exact-blocks}
 use Rattle.scores.specs.Eight.Pair.{PairTaken, pair-taken}
 use Rattle.scores.specs.Eight.Scores.{total, block_pair, pair_total, check_pair, pair_score}
 use Rattle.scores.proofs.pair.pair_score.Goals as goal
-use Rattle.scores.proofs.pair.pair_score.Goals.{After-blocks_in-k, After-check_pair, In-Accepted, Start}
+use Rattle.scores.proofs.pair.pair_score.Goals.{After-blocks_in-k, After-check_pair}
 
 module _ (c : After-check_pair) where
-  abbrev s : Start
-  s = c.before.before.before
-
   abbrev q : ℕ
-  q = nat_abs s.args.s.q
+  q = nat_abs c.args.s.q
 
   abbrev m : ℕ
-  m = nat_abs s.args.s.m
+  m = nat_abs c.args.s.m
 
   abbrev steps : List ℤ
-  steps = s.args.steps.now
+  steps = c.args.steps.now
 
   abbrev steps' : List ℤ
-  steps' = s.args.steps2.now
+  steps' = c.args.steps2.now
 
   abbrev b : List ℕ
-  b = s.args.code.now
+  b = c.args.code.now
 
   abbrev b' : List ℕ
-  b' = s.args.code2.now
+  b' = c.args.code2.now
 
   abbrev K : ℕ
   K = blocks_in m b
@@ -57,86 +53,77 @@ module _ (c : After-check_pair) where
   abbrev value : ℤ
   value = pair_total q m steps steps' b b'
 
--- where nothing is refused
-module _ (c : In-Accepted) where
-  abbrev k : After-check_pair
-  k = c.before.before
+  -- where nothing is refused
+  module _ (e : c.check_pair.result ≡ Accepted) where
+    accepted : check_pair c.args.s steps b steps' b' ≡ Accepted
+    accepted = sym c.check_pair.ensures ∙ e
 
-  accepted : check_pair (s k).args.s (steps k) (b k) (steps' k) (b' k) ≡ Accepted
-  accepted = sym k.check_pair.ensures ∙ c.enum_told-1.given.1
+    taken : PairTaken c.args.s steps b steps' b'
+    taken = pair-taken c.args.s steps b steps' b' accepted
 
-  taken : PairTaken (s k).args.s (steps k) (b k) (steps' k) (b' k)
-  taken = pair-taken (s k).args.s (steps k) (b k) (steps' k) (b' k) accepted
-
-  count : blocks_in (m k) (b' k) ≡ K k
-  count = exact-blocks (m k) (K k) (b' k) taken.other.frame
+    count : blocks_in m b' ≡ K
+    count = exact-blocks m K b' taken.other.frame
 
 -- the numbers that the total is given
 module _ (c : After-blocks_in-k) where
-  abbrev told : In-Accepted
-  told = c.before.before.before
+  abbrev code : List ℕ
+  code = c.args.code.now
 
-  abbrev t : After-check_pair
-  t = k told
+  fits : SFits w64 c.base-q.result
+  fits = record { sfits = c.base-q.type_inv }
 
-  fits : SFits w64 c.before.before.base-q.result
-  fits = record { sfits = c.before.before.base-q.type_inv }
+  q-is : to_z w64 (of_z w64 c.base-q.result) ≡ c.args.s.q
+  q-is = to_z-of_z fits ∙ c.base-q.ensures
 
-  q-is : to_z w64 (of_z w64 c.before.before.base-q.result) ≡ (s t).args.s.q
-  q-is = to_z-of_z fits ∙ c.before.before.base-q.ensures
-
-  m-is : c.before.layers-m.result ≡ m t
-  m-is = c.before.layers-m.ensures
-
-  k-is : c.blocks_in-k.result ≡ K t
-  k-is = c.blocks_in-k.ensures ∙ ap (λ (m : ℕ). blocks_in m (b t)) m-is
+  k-is : c.blocks_in-k.result ≡ blocks_in (nat_abs c.args.s.m) code
+  k-is = c.blocks_in-k.ensures ∙ ap (λ (m : ℕ). blocks_in m code) c.layers-m.ensures
 
   -- what holds of q, M and K of the settings and the record holds of these
-  by-numbers : (P : ℤ → ℕ → ℕ → Type 0) → P (s t).args.s.q (m t) (K t) → P (to_z w64 (of_z w64 c.before.before.base-q.result)) c.before.layers-m.result c.blocks_in-k.result
-  by-numbers P h = subst₂ (λ (z : ℤ) (m : ℕ). P z m c.blocks_in-k.result) (sym q-is) (sym m-is) (subst (P (s t).args.s.q (m t)) (sym k-is) h)
+  by-numbers : (P : ℤ → ℕ → ℕ → Type 0) → P c.args.s.q (nat_abs c.args.s.m) (blocks_in (nat_abs c.args.s.m) code) → P (to_z w64 (of_z w64 c.base-q.result)) c.layers-m.result c.blocks_in-k.result
+  by-numbers P h = subst₂ (λ (z : ℤ) (m : ℕ). P z m c.blocks_in-k.result) (sym q-is) (sym c.layers-m.ensures) (subst (P c.args.s.q (nat_abs c.args.s.m)) (sym k-is) h)
 
 pub base-q-requires : goal.base-q-requires
-base-q-requires c = (taken c).first.allowed
+base-q-requires c = (taken (goal.at.base-q-requires c).After-check_pair c.in-Accepted.is).first.allowed
 
 pub layers-m-requires : goal.layers-m-requires
-layers-m-requires c = (taken c.before).first.allowed
+layers-m-requires c = (taken (goal.at.layers-m-requires c).After-check_pair c.in-Accepted.is).first.allowed
 
 pub blocks_in-k-requires : goal.blocks_in-k-requires
-blocks_in-k-requires c = let h = taken c.before.before in (omega (arith, c.layers-m.ensures, h.first.allowed.m-most), h.code.frame.there)
+blocks_in-k-requires c = let h = taken (goal.at.blocks_in-k-requires c).After-check_pair c.in-Accepted.is in (omega (arith, c.layers-m.ensures, h.first.allowed.m-most), h.code.frame.there)
 
 pub slice_bounds-pair_body-count : goal.slice_bounds-pair_body-count
-slice_bounds-pair_body-count c = omega (arith, (taken (told c)).code.frame.there)
+slice_bounds-pair_body-count c = omega (arith, (taken (goal.at.slice_bounds-pair_body-count c).After-check_pair c.in-Accepted.is).code.frame.there)
 
 pub slice_bounds-pair_body-start : goal.slice_bounds-pair_body-start
-slice_bounds-pair_body-start c = omega (arith, (taken (told c)).code.frame.there)
+slice_bounds-pair_body-start c = omega (arith, (taken (goal.at.slice_bounds-pair_body-start c).After-check_pair c.in-Accepted.is).code.frame.there)
 
 pub slice_bounds-pair_body-count-in-Accepted : goal.slice_bounds-pair_body-count-in-Accepted
-slice_bounds-pair_body-count-in-Accepted c = omega (arith, (taken (told c.before)).other.frame.there)
+slice_bounds-pair_body-count-in-Accepted c = omega (arith, (taken (goal.at.slice_bounds-pair_body-count-in-Accepted c).After-check_pair c.in-Accepted.is).other.frame.there)
 
 pub slice_bounds-pair_body-start-in-Accepted : goal.slice_bounds-pair_body-start-in-Accepted
-slice_bounds-pair_body-start-in-Accepted c = omega (arith, (taken (told c.before)).other.frame.there)
+slice_bounds-pair_body-start-in-Accepted c = omega (arith, (taken (goal.at.slice_bounds-pair_body-start-in-Accepted c).After-check_pair c.in-Accepted.is).other.frame.there)
 
 pub pair_body-requires : goal.pair_body-requires
-pair_body-requires c = let n = c.before.before in let a = t n in let h = taken (told n) in (
+pair_body-requires c = let n = (goal.at.pair_body-requires c).After-blocks_in-k in let a = (goal.at.pair_body-requires c).After-check_pair in let e = c.in-Accepted.is in let h = taken a e in (
   by-numbers n (λ z m k. Coder z m (steps a)) h.first.coder,
   by-numbers n (λ z m k. Coder z m (steps' a)) h.second.coder,
   by-numbers n (λ z m k. AreBlocks (length (steps a)) (nat_abs z) m k (lent a (b a))) (subst (AreBlocks (length (steps a)) (q a) (m a) (K a)) (sym (rest-whole 4 (b a))) h.code.blocks),
   by-numbers n (λ z m k. AreBlocks (length (steps' a)) (nat_abs z) m k (lent a (b' a)))
-      (subst₂ (AreBlocks (length (steps' a)) (q a) (m a)) (count (told n)) (sym (rest-whole 4 (b' a))) h.other.blocks),
+      (subst₂ (AreBlocks (length (steps' a)) (q a) (m a)) (count a e) (sym (rest-whole 4 (b' a))) h.other.blocks),
   omega (arith, k-is n, h.code.frame.whole.few),
 )
 
 pub returns-in-Refused : goal.returns-in-Refused
 unfolding Rattle.scores.specs.Scores.pair_score
-returns-in-Refused c = let a = c.before.before.before.before in c.refused.ensures ∙ ap (λ (v : Verdict). valued v (value a)) (sym c.before.before.r-1.given.1 ∙ a.check_pair.ensures)
+returns-in-Refused c = let a = (goal.at.returns-in-Refused c).After-check_pair in record { answer = c.refused.ensures ∙ ap (λ (v : Verdict). valued v (value a)) (sym c.in-Refused.is ∙ a.check_pair.ensures) }
 
 pub returns-in-Accepted : goal.returns-in-Accepted
 unfolding Rattle.scores.specs.Scores.pair_score Rattle.scores.specs.Scores.pair_total
-returns-in-Accepted c = let n = c.before.before.before in let a = t n in
+returns-in-Accepted c = let n = (goal.at.returns-in-Accepted c).After-blocks_in-k in let a = (goal.at.returns-in-Accepted c).After-check_pair in let e = c.in-Accepted.is in
     let f : SFits w64 c.pair_body.result = record { sfits = c.pair_body.type_inv } in
     let same : c.pair_body.result ≡ value a =
     c.pair_body.ensures
-    ∙ sym (by-numbers n (λ x y k. sum a (s a).args.s.q (m a) (K a) (K a) (lent a (b a)) (lent a (b' a)) ≡ sum a x y k k (lent a (b a)) (lent a (b' a))) refl)
-    ∙ ap₂ (sum a (s a).args.s.q (m a) (K a) (K a)) (rest-whole 4 (b a)) (rest-whole 4 (b' a))
-    ∙ ap (λ (k : ℕ). sum a (s a).args.s.q (m a) (K a) k (drop 4 (b a)) (drop 4 (b' a))) (sym (count (told n))) in
-    ap (valued Accepted) (to_z-of_z f ∙ same) ∙ ap (λ (v : Verdict). valued v (value a)) (sym (accepted (told n)))
+    ∙ sym (by-numbers n (λ x y k. sum a c.args.s.q (m a) (K a) (K a) (lent a (b a)) (lent a (b' a)) ≡ sum a x y k k (lent a (b a)) (lent a (b' a))) refl)
+    ∙ ap₂ (sum a c.args.s.q (m a) (K a) (K a)) (rest-whole 4 (b a)) (rest-whole 4 (b' a))
+    ∙ ap (λ (k : ℕ). sum a c.args.s.q (m a) (K a) k (drop 4 (b a)) (drop 4 (b' a))) (sym (count a e)) in
+    record { answer = ap (valued Accepted) (to_z-of_z f ∙ same) ∙ ap (λ (v : Verdict). valued v (value a)) (sym (accepted a e)) }

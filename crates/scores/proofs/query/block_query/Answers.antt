@@ -1,7 +1,6 @@
 -- `block_query` multiplies the block's step with the inner product of the readings and its point; both are small.
 use mathlib.Core.Path.{◌≡◌, sym, ap₂, subst}
-use mathlib.Core.List.{List}
-use Prim.Native.Nat.{ℕ, ◌-◌, ◌^◌}
+use Prim.Native.Nat.{◌-◌, ◌^◌}
 use native.Mathlib.Omega.{arith}
 use lib.IntN.{ℤ, ◌*ℤ◌}
 use mir.Syntax.{w64}
@@ -12,52 +11,32 @@ use Rattle.integers.specs.Vectors.{dot}
 use Rattle.records.specs.Eight.Codes.{step_of}
 use Rattle.scores.specs.Laws.Sizes.{dot-sized, scored-step}
 use Rattle.scores.proofs.query.block_query.Goals as goal
-use Rattle.scores.proofs.query.block_query.Goals.{After-point_dot, Start}
+use Rattle.scores.proofs.query.block_query.Goals.{After-point_dot}
 
-module _ (s : Start) where
-  abbrev steps : List ℤ
-  steps = s.args.steps.now
-
-  abbrev X : List ℤ
-  X = s.args.x.now
-
-  abbrev b : List ℕ
-  b = s.args.b.now
-
-  abbrev e : List ℤ
-  e = s.args.e.now
-
-  value-fits : SFits w64 (step_of steps b *ℤ dot X e)
-  value-fits = fits-abs _ (omega (arith, abs-mul-le (step_of steps b) (dot X e) (scored-step steps b e s.requires.1) (dot-sized 8 (2 ^ 24) (2 ^ 14 - 1) X e s.requires.0 s.requires.1.narrow)))
-
--- the inner product
 module _ (c : After-point_dot) where
-  abbrev a : Start
-  a = c.before.before.before
+  abbrev step : ℤ
+  step = step_of c.args.steps.now c.args.b.now
 
-  abbrev z : ℤ
-  z = c.before.step_of_lem.result
+  abbrev product : ℤ
+  product = dot c.args.x.now c.args.e.now
 
-  step_fits : SFits w64 z
-  step_fits = record { sfits = c.before.step_of_lem.type_inv }
+  step_fits : SFits w64 c.step_of.result
+  step_fits = record { sfits = c.step_of.type_inv }
 
   dot-fits : SFits w64 c.point_dot.result
   dot-fits = record { sfits = c.point_dot.type_inv }
 
-  value-is : z *ℤ c.point_dot.result ≡ step_of (steps a) (b a) *ℤ dot (X a) (e a)
-  value-is = ap₂ ◌*ℤ◌ c.before.step_of_lem.ensures c.point_dot.ensures
+  value-is : c.step_of.result *ℤ c.point_dot.result ≡ step *ℤ product
+  value-is = ap₂ ◌*ℤ◌ c.step_of.ensures c.point_dot.ensures
 
-  fits : SFits w64 (z *ℤ c.point_dot.result)
-  fits = subst (SFits w64) (sym value-is) (value-fits a)
+  value-fits : SFits w64 (step *ℤ product)
+  value-fits = fits-abs _ (omega (arith, abs-mul-le step product (scored-step c.args.steps.now c.args.b.now c.args.e.now c.requires.1) (dot-sized 8 (2 ^ 24) (2 ^ 14 - 1) c.args.x.now c.args.e.now c.requires.0 c.requires.1.narrow)))
 
-pub step_of-requires : goal.step_of-requires
-step_of-requires c = let h = c.before.requires.1 in (h.some, h.first)
-
-pub point_dot-requires : goal.point_dot-requires
-point_dot-requires c = let p = c.before.before.requires in (p.0, p.1.narrow)
+  fits : SFits w64 (c.step_of.result *ℤ c.point_dot.result)
+  fits = subst (SFits w64) (sym value-is) value-fits
 
 pub overflow_mul-result : goal.overflow_mul-result
-overflow_mul-result c = simp (to_z-of_z, step_fits c, dot-fits c) (fits c)
+overflow_mul-result c = let i = (goal.at.overflow_mul-result c).After-point_dot in simp (to_z-of_z, step_fits i, dot-fits i) (fits i)
 
 pub returns : goal.returns
-returns c = simp (to_z-of_z, step_fits c, dot-fits c, fits c) (value-is c)
+returns c = let i = (goal.at.returns c).After-point_dot in simp (to_z-of_z, step_fits i, dot-fits i, fits i) (value-is i)

@@ -1,5 +1,4 @@
 -- `query_score_units` answers what is refused of the hour, and else what the core answers on the units themselves.
-use borrow.Author.Rules.{rules}
 use mathlib.Core.Path.{◌≡◌, sym, ◌∙◌, subst}
 use mathlib.Core.List.{List}
 use lib.IntN.{ℤ}
@@ -12,38 +11,35 @@ use Rattle.scores.specs.Hours.{check_hour}
 use Rattle.scores.specs.Eight.Asked.{HourTaken, hour-taken}
 use Rattle.scores.specs.Eight.Query.{query_score-refused, query_score-is}
 use Rattle.scores.proofs.query.query_score_units.Goals as goal
-use Rattle.scores.proofs.query.query_score_units.Goals.{In-Accepted, Start}
+use Rattle.scores.proofs.query.query_score_units.Goals.{After-check_units_hour}
 
 -- where the hour is accepted
-module _ (c : In-Accepted) where
-  abbrev s : Start
-  s = c.before.before.before.before
-
+module _ (c : After-check_units_hour) (e : c.check_units_hour.result ≡ Accepted) where
   abbrev steps : List ℤ
-  steps = s.args.steps.now
+  steps = c.args.steps.now
 
   abbrev x : List ℤ
-  x = s.args.x.now
+  x = c.args.x.now
 
   abbrev h : Hour
   h = units_hour x
 
-  accepted : check_hour s.args.s steps h ≡ Accepted
-  accepted = sym c.before.before.check_units_hour.ensures ∙ c.enum_told-1.given.1
+  accepted : check_hour c.args.s steps h ≡ Accepted
+  accepted = sym c.check_units_hour.ensures ∙ e
 
-  taken : HourTaken s.args.s steps h
-  taken = hour-taken s.args.s steps h (units-sound x) accepted
+  taken : HourTaken c.args.s steps h
+  taken = hour-taken c.args.s steps h (units-sound x) accepted
 
   same : units_taken h.readings ≡ x
   same = units-taken 0 x taken.readings
 
 pub score_units-requires : goal.score_units-requires
-score_units-requires c = ((taken c).taken, subst UnitsTaken (same c) (taken c).units)
+score_units-requires c = let a = (goal.at.score_units-requires c).After-check_units_hour in let e = c.in-Accepted.is in ((taken a e).taken, subst UnitsTaken (same a e) (taken a e).units)
 
 pub returns-in-Refused : goal.returns-in-Refused
-returns-in-Refused c = let a = c.before.before.before.before in let v = a.before.before.args in
-    c.refused.ensures ∙ query_score-refused v.s v.steps.now (units_hour v.x.now) v.code.now _ (sym a.check_units_hour.ensures ∙ c.before.before.r-1.given.1)
+returns-in-Refused c = let v = c.args in
+    record { answer = c.refused.ensures ∙ query_score-refused v.s v.steps.now (units_hour v.x.now) v.code.now _ (sym c.check_units_hour.ensures ∙ c.in-Refused.is) }
 
 pub returns-in-Accepted : goal.returns-in-Accepted
-returns-in-Accepted c = let t = c.before in let v = (s t).args in
-    c.score_units.ensures ∙ query_score-is v.s (steps t) (h t) v.code.now (accepted t) (x t) (same t) (sym (length-map (x t) measure_units))
+returns-in-Accepted c = let a = (goal.at.returns-in-Accepted c).After-check_units_hour in let e = c.in-Accepted.is in let v = c.args in
+    record { answer = c.score_units.ensures ∙ query_score-is v.s v.steps.now (units_hour v.x.now) v.code.now (accepted a e) v.x.now (same a e) (sym (length-map v.x.now measure_units)) }

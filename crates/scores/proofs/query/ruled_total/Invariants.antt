@@ -1,29 +1,11 @@
 -- `ruled_total` has the points of eight blocks made at the first of them, and adds block after block: after i turns z is the total of the first i, which stays small.
-use mathlib.Core.Path.{◌≡◌, refl, sym, ◌∙◌, ap, ap₂, subst}
-use mathlib.Core.List.{List}
-use mathlib.Core.Logic.{⊎_elim}
-use Prim.Native.Nat.{ℕ, ◌+◌, ◌*◌, ◌-◌, ◌%◌, ◌^◌, ◌<◌, ◌≤◌}
-use native.Mathlib.Omega.{arith}
-use lib.IntN.{ℤ, pos, nat_abs, ◌+ℤ◌, ◌*ℤ◌}
-use lib.ListN.{length, take, drop}
-use mir.Syntax.{w16, w64}
-use mir.Val.{SFits, to_z}
-use mir.Facts.{to_z-of_z}
-use Rattle.integers.specs.Laws.Loops.{rest-whole}
-use Rattle.integers.specs.Laws.Sizes.{fits-mag, fits-abs}
-use Rattle.integers.specs.Laws.Sums.{sized-part}
-use Rattle.integers.specs.Vectors.{dot, Sized}
-use Rattle.columns.specs.Columns.{column}
+use mathlib.Core.Path.{◌≡◌}
+use Prim.Native.Nat.{◌-◌, ◌%◌, ◌≤◌}
+use lib.IntN.{nat_abs}
 use Rattle.layers.specs.Digits.{cut}
-use Rattle.records.specs.Eight.Codes.{AreCodes, IsBlock, block_size, step_of, whole_point}
-use Rattle.records.specs.Laws.Parts.{part-ends}
-use Rattle.points.specs.Lanes.{BlockPoints}
-use Rattle.points.specs.Laws.LanePoints.{codes-from}
-use Rattle.points.specs.Laws.Points.{coder-digital, blocks-codes}
-use Rattle.scores.specs.Laws.Groups.{Standing, standing-first, standing-next}
-use Rattle.scores.specs.Laws.Sizes.{block-scored, block_query-most}
-use Rattle.scores.specs.Laws.Totals.{parts_more, parts-small}
-use Rattle.scores.specs.Eight.Scores.{Scored, total, block_query}
+use Rattle.records.specs.Eight.Codes.{block_size}
+use Rattle.scores.specs.Laws.Groups.{Standing}
+use Rattle.scores.specs.Eight.Scores.{total, block_query}
 use Rattle.scores.proofs.query.ruled_total.Given as goal
 
 abbrev pub invariant-loop-i : goal.invariant-loop-i

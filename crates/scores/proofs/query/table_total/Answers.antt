@@ -1,10 +1,10 @@
 -- `table_total` has the points made, then adds block after block: after i turns z is the total of the first i, which stays small.
-use mathlib.Core.Path.{◌≡◌, refl, sym, ◌∙◌, ap, ap₂, subst}
-use mathlib.Core.List.{List, [], ◌++◌, map}
+use mathlib.Core.Path.{◌≡◌, sym, ◌∙◌, ap, ap₂, subst}
+use mathlib.Core.List.{List, []}
 use Prim.Native.Nat.{ℕ, ◌+◌, ◌*◌, ◌-◌, ◌^◌, ◌<◌, ◌≤◌}
 use native.Mathlib.Omega.{arith}
 use lib.IntN.{ℤ, nat_abs, ◌+ℤ◌, ◌*ℤ◌}
-use lib.ListN.{length, get_or, take, drop}
+use lib.ListN.{get_or, take, drop}
 use mir.Syntax.{w64}
 use mir.Val.{SFits, to_z}
 use mir.Facts.{to_z-of_z}
@@ -13,39 +13,38 @@ use Rattle.integers.specs.Laws.Sums.{sized-part}
 use Rattle.integers.specs.Vectors.{dot, Sized}
 use Rattle.layers.specs.Digits.{cut}
 use Rattle.records.specs.Eight.Codes.{block_size, step_of, whole_point}
-use Rattle.records.specs.Laws.Parts.{part-ends}
-use Rattle.points.specs.Laws.Points.{coder-digital, blocks-codes, row_at}
+use Rattle.points.specs.Laws.Points.{row_at}
 use Rattle.scores.specs.Laws.Sizes.{block-scored, block_query-most}
 use Rattle.scores.specs.Laws.Totals.{parts_more, parts-small}
 use Rattle.scores.specs.Eight.Scores.{Scored, total, block_query}
 use Rattle.scores.proofs.query.table_total.Goals as goal
-use Rattle.scores.proofs.query.table_total.Goals.{After-block_query-z, At-loop-i, In-loop-i, Start}
+use Rattle.scores.proofs.query.table_total.Goals.{In-loop-i}
 
--- what stands at the loop's test
-module _ (l : At-loop-i) where
-  abbrev s : Start
-  s = l.before.before.before.before.before
-
+-- block i
+module _ (c : In-loop-i) where
   abbrev q : ℕ
-  q = nat_abs s.args.q
+  q = nat_abs c.args.q
 
   abbrev m : ℕ
-  m = s.args.m
+  m = c.args.m
 
   abbrev k : ℕ
-  k = s.args.k
+  k = c.args.k
 
   abbrev steps : List ℤ
-  steps = s.args.steps.now
+  steps = c.args.steps.now
 
   abbrev X : List ℤ
-  X = s.args.x.now
+  X = c.args.x.now
 
   abbrev body : List ℕ
-  body = s.args.body.now
+  body = c.args.body.now
 
   abbrev i : ℕ
-  i = l.loop-i.i
+  i = c.loop-i.i
+
+  abbrev n : ℕ
+  n = c.block_size-n.result
 
   abbrev f : List ℤ → List ℕ → ℤ
   f = block_query q m steps
@@ -53,21 +52,11 @@ module _ (l : At-loop-i) where
   abbrev sum : ℕ → ℤ
   sum j = total f (cut 8 j X) (cut (block_size m) j body)
 
-  sum_is : to_z w64 l.loop-i.z-bits ≡ sum i
-  sum_is = simp (to_z-of_z, s.ranges.q) at l.loop-i.invariant.1
+  sum_is : to_z w64 c.loop-i.z-bits ≡ sum i
+  sum_is = simp (to_z-of_z, c.ranges.q) at c.loop-i.invariant.1
 
-  n-is : l.before.block_size-n.result ≡ block_size m
-  n-is = l.before.block_size-n.ensures
-
-  -- the points, in their rows
-  abbrev rows : List (List ℤ)
-  rows = l.before.before.whole_points.new.rows
-
-  abbrev point : List ℕ → List ℤ
-  point = whole_point q m
-
-  rows_are : rows ≡ map point (cut (block_size m) k body) ++ drop k s.args.rows.now
-  rows_are = simp (to_z-of_z, s.ranges.q) at l.before.before.whole_points.ensures
+  n-is : n ≡ block_size m
+  n-is = c.block_size-n.ensures
 
   abbrev part : ℕ → List ℤ
   part j = take 8 (drop (8 * j) X)
@@ -75,115 +64,76 @@ module _ (l : At-loop-i) where
   abbrev block : ℕ → List ℕ
   block j = take (block_size m) (drop (block_size m * j) body)
 
+  -- both as they are lent
+  abbrev lent : List ℕ
+  lent = take (n * i + n - n * i) (drop (n * i) body)
+
+  abbrev taken : List ℤ
+  taken = take (8 * i + 8 - 8 * i) (drop (8 * i) X)
+
+  block-is : lent ≡ block i
+  block-is = let whole : n * i + n - n * i ≡ n = omega arith in ap₂ (λ (j n : ℕ). take j (drop (n * i) body)) (whole ∙ n-is) n-is
+
+  part-is : taken ≡ part i
+  part-is = let whole : 8 * i + 8 - 8 * i ≡ 8 = omega arith in ap (λ (j : ℕ). take j (drop (8 * i) X)) whole
+
   part-sized : (j : ℕ) → j < k → Sized 8 (2 ^ 24) (part j)
-  part-sized j h = sized-part 8 k (2 ^ 24) X s.requires.2 j h
+  part-sized j h = sized-part 8 k (2 ^ 24) X c.requires.2 j h
 
-  -- the point of a block
-  row_is : (j : ℕ) → j < k → get_or rows j [] ≡ point (block j)
-  row_is j h = ap (λ (r : List (List ℤ)). get_or r j []) rows_are ∙ row_at point (block_size m) body s.args.rows.now k j [] h
+  taken-sized : Sized 8 (2 ^ 24) taken
+  taken-sized = subst (Sized 8 (2 ^ 24)) (sym part-is) (part-sized i c.loop-i-test.true)
 
-  row-scored : (j : ℕ) → j < k → Scored steps (block j) (get_or rows j [])
-  row-scored j h = subst (Scored steps (block j)) (sym (row_is j h)) (block-scored s.args.q m steps s.requires.1 (block j) (s.requires.3.each j h))
+  -- the points, in their rows
+  abbrev rows : List (List ℤ)
+  rows = c.whole_points.new.rows
+
+  abbrev point : List ℕ → List ℤ
+  point = whole_point q m
+
+  row_is : get_or rows i [] ≡ point (block i)
+  row_is = ap (λ (r : List (List ℤ)). get_or r i []) (simp (to_z-of_z, c.ranges.q) at c.whole_points.ensures) ∙ row_at point (block_size m) body c.args.rows.now k i [] c.loop-i-test.true
+
+  scored : Scored steps lent (get_or rows i [])
+  scored = subst (λ (g : List ℕ). Scored steps g (get_or rows i [])) (sym block-is)
+      (subst (Scored steps (block i)) (sym row_is) (block-scored c.args.q m steps c.requires.1 (block i) (c.requires.3.each i c.loop-i-test.true)))
 
   -- the first j of k blocks
   sum-small : (j : ℕ) → j ≤ k → nat_abs (sum j) ≤ j * 2 ^ 51
-  sum-small j h = parts-small f 8 (block_size m) X body (2 ^ 51) j (λ a r. let o : a < k = omega arith in block_query-most s.args.q m steps s.requires.1 (block a) (s.requires.3.each a o) (part a) (part-sized a o))
+  sum-small j h = parts-small f 8 (block_size m) X body (2 ^ 51) j (λ a r. let o : a < k = omega arith in block_query-most c.args.q m steps c.requires.1 (block a) (c.requires.3.each a o) (part a) (part-sized a o))
 
--- block i
-module _ (c : In-loop-i) where
-  abbrev l : At-loop-i
-  l = c.before
+  -- its part is added
+  module _ (y : ℤ) (y-is : y ≡ step_of steps lent *ℤ dot taken (get_or rows i [])) where
+    value-is : y ≡ f (part i) (block i)
+    unfolding Rattle.scores.specs.Scores.block_query
+    value-is = y-is ∙ ap₂ ◌*ℤ◌ (ap (step_of steps) block-is) (ap₂ dot part-is row_is)
 
-  abbrev n : ℕ
-  n = l.before.block_size-n.result
+    more-is : sum i +ℤ y ≡ sum (i + 1)
+    more-is = ap (λ (y : ℤ). sum i +ℤ y) value-is ∙ sym (parts_more f 8 (block_size m) X body i)
 
-  ends : n * i l + n ≤ length (body l)
-  ends = subst (λ (n : ℕ). n * i l + n ≤ length (body l)) (sym (n-is l)) (omega (arith, part-ends (block_size (m l)) (i l) (k l) c.loop-i-test.true, (s l).requires.3.long))
-
-  block-is : take (n * i l + n - n * i l) (drop (n * i l) (body l)) ≡ block l (i l)
-  block-is = let whole : n * i l + n - n * i l ≡ n = omega arith in ap₂ (λ (j n : ℕ). take j (drop (n * i l) (body l))) (whole ∙ n-is l) (n-is l)
-
-  part-is : take (8 * i l + 8 - 8 * i l) (drop (8 * i l) (X l)) ≡ part l (i l)
-  part-is = let whole : 8 * i l + 8 - 8 * i l ≡ 8 = omega arith in ap (λ (j : ℕ). take j (drop (8 * i l) (X l))) whole
-
-  ends-x : 8 * i l + 8 ≤ length (X l)
-  ends-x = omega (arith, (s l).requires.2.long, c.loop-i-test.true)
-
--- its part is added
-module _ (c : After-block_query-z) where
-  abbrev b : In-loop-i
-  b = c.before.before.before.before
-
-  abbrev t : At-loop-i
-  t = l b
-
-  abbrev y : ℤ
-  y = c.block_query-z.result
-
-  y-fits : SFits w64 y
-  y-fits = record { sfits = c.block_query-z.type_inv }
-
-  y-is : y ≡ f t (part t (i t)) (block t (i t))
-  unfolding Rattle.scores.specs.Scores.block_query-z
-  y-is = c.block_query-z.ensures ∙ ap₂ ◌*ℤ◌ (ap (step_of (steps t)) (block-is b)) (ap₂ dot (part-is b) (row_is t (i t) b.loop-i-test.true))
-
-  more-is : sum t (i t) +ℤ y ≡ sum t (i t + 1)
-  more-is = ap (λ (y : ℤ). sum t (i t) +ℤ y) y-is ∙ sym (parts_more (f t) 8 (block_size (m t)) (X t) (body t) (i t))
-
-  more-fits : SFits w64 (sum t (i t) +ℤ y)
-  more-fits = rw more-is (fits-abs _ (omega (arith, sum-small t (i t + 1) (omega (arith, b.loop-i-test.true)), (s t).requires.4, b.loop-i-test.true)))
-
-pub whole_points-requires : goal.whole_points-requires
-whole_points-requires c = let s = c.before.before in let p = s.requires in
-    simp (to_z-of_z, s.ranges.q) (
-      (λ h. p.0),
-      coder-digital s.args.q s.args.m s.args.steps.now p.1,
-      blocks-codes (length s.args.steps.now) (nat_abs s.args.q) s.args.m s.args.k s.args.body.now p.3,
-      p.4,
-      p.5,
-    )
-
-pub block_size-n-requires : goal.block_size-n-requires
-block_size-n-requires c = omega (arith, c.before.before.before.requires.1.few)
-
-pub loop-i-init : goal.loop-i-init
-loop-i-init c = (omega arith, refl)
-
-pub overflow_mul-from : goal.overflow_mul-from
-overflow_mul-from c = omega (arith, ends-x c)
-
-pub overflow_add-to : goal.overflow_add-to
-overflow_add-to c = omega (arith, ends-x c)
-
-pub overflow_mul-at : goal.overflow_mul-at
-overflow_mul-at c = omega (arith, ends c)
-
-pub overflow_add-end : goal.overflow_add-end
-overflow_add-end c = omega (arith, ends c)
-
-pub slice_bounds-block_query-end : goal.slice_bounds-block_query-end
-slice_bounds-block_query-end c = omega (arith, ends-x c)
-
-pub slice_bounds-block_query-end-in-loop-i : goal.slice_bounds-block_query-end-in-loop-i
-slice_bounds-block_query-end-in-loop-i c = omega (arith, ends c.before)
-
-pub offset_bounds-rows-i : goal.offset_bounds-rows-i
-offset_bounds-rows-i c = let b = c.before.before in omega (arith, b.loop-i-test.true, (s (l b)).requires.4)
-
-pub bounds-rows-i : goal.bounds-rows-i
-bounds-rows-i c = let b = c.before.before in omega (arith, b.loop-i-test.true, (s (l b)).requires.4)
+    more-fits : SFits w64 (sum i +ℤ y)
+    more-fits = rw more-is (fits-abs _ (omega (arith, sum-small (i + 1) (omega (arith, c.loop-i-test.true)), c.requires.4, c.loop-i-test.true)))
 
 pub block_query-z-requires : goal.block_query-z-requires
-block_query-z-requires c = let b = c.before.before.before in let t = l b in let j = b.loop-i-test.true in (
-  subst (Sized 8 (2 ^ 24)) (sym (part-is b)) (part-sized t (i t) j),
-  subst (λ (g : List ℕ). Scored (steps t) g (get_or (rows t) (i t) [])) (sym (block-is b)) (row-scored t (i t) j),
-)
+block_query-z-requires c = let b = (goal.at.block_query-z-requires c).In-loop-i in (taken-sized b, scored b)
 
 pub overflow_add-z : goal.overflow_add-z
-overflow_add-z c = simp (to_z-of_z, y-fits c, sum_is (t c)) (more-fits c)
+overflow_add-z c =
+    let b = (goal.at.overflow_add-z c).In-loop-i in
+    let y-fits : SFits w64 c.block_query-z.result = record { sfits = c.block_query-z.type_inv } in
+    simp (to_z-of_z, y-fits, sum_is b) (more-fits b _ c.block_query-z.ensures)
 
 pub loop-i-preserved : goal.loop-i-preserved
-loop-i-preserved c = (omega arith, simp (to_z-of_z, (s (t c)).ranges.q, y-fits c, sum_is (t c), more-fits c) (more-is c))
+loop-i-preserved c =
+    let b = (goal.at.loop-i-preserved c).In-loop-i in
+    let y-fits : SFits w64 c.block_query-z.result = record { sfits = c.block_query-z.type_inv } in
+    let fits : SFits w64 (sum b (i b) +ℤ c.block_query-z.result) = more-fits b _ c.block_query-z.ensures in
+    (omega (arith, c.loop-i-test.true), simp (to_z-of_z, c.ranges.q, y-fits, sum_is b, fits) (more-is b _ c.block_query-z.ensures))
 
 pub returns : goal.returns
-returns c = let l = c.before in let n : i l ≡ k l = omega arith in record { answer = sum_is l ∙ ap (sum l) n; room = rows_are l }
+returns c =
+    let sum : ℕ → ℤ = λ j. total (block_query (nat_abs c.args.q) c.args.m c.args.steps.now) (cut 8 j c.args.x.now) (cut (block_size c.args.m) j c.args.body.now) in
+    let n : c.loop-i.i ≡ c.args.k = omega (arith, c.loop-i.invariant.0, c.loop-i-test.false) in
+    record {
+      answer = (simp (to_z-of_z, c.ranges.q) at c.loop-i.invariant.1) ∙ ap sum n;
+      room = simp (to_z-of_z, c.ranges.q) at c.whole_points.ensures;
+    }

@@ -1,17 +1,16 @@
 -- `choose_run` takes column after column: after t turns the first t choices are right.
-use mathlib.Core.Path.{◌≡◌, refl, sym, ◌∙◌, ap, ap₂, subst}
+use mathlib.Core.Path.{◌≡◌, sym, ◌∙◌, ap, ap₂, subst}
 use mathlib.Core.List.{List, []}
-use Prim.Native.Nat.{ℕ, ◌+◌, ◌-◌, ◌<◌, ◌≤◌}
+use Prim.Native.Nat.{ℕ, ◌+◌, ◌<◌, ◌≤◌}
 use native.Mathlib.Omega.{arith}
 use lib.IntN.{ℤ, pos, nat_abs}
 use lib.ListN.{length, get_or, length-set}
 use mir.Syntax.{w16}
-use mir.Val.{SFits, to_z}
+use mir.Val.{SFits}
 use mir.Facts.{to_z-of_z}
 use Rattle.integers.specs.Vectors.{«at»}
 use Rattle.columns.specs.Columns.{column}
-use Rattle.columns.specs.Laws.Narrow.{part-slim}
-use Rattle.columns.specs.Narrow.{Slim, Slender, wide, brief}
+use Rattle.columns.specs.Narrow.{Slender, wide, brief}
 use Rattle.rounding.specs.declared.half.Scan.{Scan}
 use Rattle.rounding.specs.Pass.{chosen}
 use Rattle.slices.specs.Lanes.{scan_of, Lane, code_by}
@@ -88,42 +87,9 @@ module _ (c : After-code) where
   code_is : c.code.result ≡ code_by (q j) (col j) (high j)
   code_is = let f : SFits w16 (w m) = record { sfits = c.before.code-arg-1.given } in (simp (to_z-of_z, (s j).ranges.q, f) at c.code.ensures).0 ∙ ap₂ (λ (n : Scan) (z : ℤ). code_of (brief (chosen (q j) n z))) (both_is m) (w-is m)
 
-pub loop-t-init : goal.loop-t-init
-loop-t-init c = (omega arith, refl, λ u h. absurd (omega arith))
-
-pub overflow_add-from : goal.overflow_add-from
-overflow_add-from c = omega (arith, below c)
-
-pub scan_at-low-requires : goal.scan_at-low-requires
-scan_at-low-requires c = ((s c).requires.1, below c, (lane c).whole)
-
-pub merged-requires : goal.merged-requires
-merged-requires c = let d = c.before in (subst Slim (sym (low-is c)) (part-slim (omega arith) (lane d).part), part-slim (omega arith) (s d).requires.4)
-
-pub overflow_add-from-in-loop-t : goal.overflow_add-from-in-loop-t
-overflow_add-from-in-loop-t c = omega (arith, below (i c))
-
-pub offset_bounds-lanes-from : goal.offset_bounds-lanes-from
-offset_bounds-lanes-from c = omega (arith, below (i c))
-
-pub bounds-lanes-from : goal.bounds-lanes-from
-bounds-lanes-from c = below (i c)
-
 pub code-requires : goal.code-requires
 code-requires c = let m = c.before in let d = i m in let f : SFits w16 (w m) = record { sfits = c.code-arg-1.given } in
     simp (to_z-of_z, (s d).ranges.q, f) ((s d).requires.0, subst (Slender (q d)) (sym (both_is m)) (slender d), subst (λ (z : ℤ). nat_abs z ≤ 1) (sym (w-is m)) (lane d).way)
-
-pub overflow_cast-run : goal.overflow_cast-run
-overflow_cast-run c = record { fits = omega (arith, c.code.ensures.1) }
-
-pub bounds-run-t : goal.bounds-run-t
-bounds-run-t c = (j c).loop-t-test.true
-
-pub overflow_add-t : goal.overflow_add-t
-overflow_add-t c = omega (arith, below (j c))
-
-pub loop-t-smaller : goal.loop-t-smaller
-loop-t-smaller c = omega (arith, within (j c))
 
 pub loop-t-preserved : goal.loop-t-preserved
 loop-t-preserved c = let d = j c in let b = l d in let inv = simp (to_z-of_z, (s d).ranges.q) at b.loop-t.invariant in
@@ -132,10 +98,3 @@ loop-t-preserved c = let d = j c in let b = l d in let inv = simp (to_z-of_z, (s
       length-set b.loop-t.run (t d) c.code.result ∙ inv.1,
       run_more (q d) (s d).args.from (lanes d) (high d) (t d) b.loop-t.run c.code.result d.loop-t-test.true inv.2 (code_is c),
     )
-
-pub shape_of-run : goal.shape_of-run
-shape_of-run c = c.before.loop-t.invariant.1
-
-pub returns : goal.returns
-returns c = let b = c.before in let s = b.before.before in let inv = simp (to_z-of_z, s.ranges.q) at b.loop-t.invariant in
-    record { long = inv.1; each = λ t h. inv.2 t (omega (arith, c.loop-t-test.false, b.loop-t.invariant.1)) }

@@ -1,7 +1,7 @@
 -- `code` puts the fields of the choice together; each is small, so that no cast changes it.
 use mathlib.Core.Path.{◌≡◌, sym, ap, subst}
 use native.Mathlib.Omega.{arith}
-use lib.IntN.{ℤ, pos, ◌+ℤ◌}
+use lib.IntN.{pos, ◌+ℤ◌}
 use lib.Signed.{yes_non_neg}
 use mir.Syntax.{w16}
 use mir.Val.{SFits}

@@ -1,285 +1,170 @@
 -- `fill_choices` counts the high digits up: after g turns the first g runs are chosen, and the first g lists what is left.
-use mathlib.Core.Path.{◌≡◌, refl, sym, ◌∙◌, ap, ap₂, subst}
-use mathlib.Core.List.{List, [], ◌∷◌}
-use Prim.Native.Nat.{ℕ, ◌+◌, ◌*◌, ◌-◌, ◌%◌, ◌<◌, ◌≤◌}
-use native.Mathlib.Nat.{mod-lt}
-use native.Mathlib.Numerals.{add-one}
-use native.Mathlib.Omega.{arith}
-use lib.IntN.{ℤ, pos, nat_abs}
-use lib.ListN.{length, get_or, drop}
-use lib.Signed.{yes_non_neg}
+use Rattle.std.proofs.Common.{◌≡◌, sym, ◌∙◌, ap, ap₂, subst, List, [], ◌∷◌, ℕ, ◌+◌, ◌*◌, ◌%◌, ◌<◌, ◌≤◌, ℤ, nat_abs, get_or, drop, mod-lt, add-one, arith}
 use mir.Syntax.{w16}
-use mir.Val.{SFits, to_z}
+use mir.Val.{SFits, to_z, of_z}
 use mir.Facts.{to_z-of_z}
-use Rattle.integers.specs.Laws.Signed.{≤ℤ-trans}
 use Rattle.integers.specs.Laws.Sizes.{fits-mag}
 use Rattle.integers.specs.Laws.Sums.{sized-more}
 use Rattle.integers.specs.Vectors.{«at», Sized}
-use Rattle.columns.specs.Narrow.{Few, Part, wide, scanned_from}
+use Rattle.columns.specs.Narrow.{Few, Part, scanned_from}
 use Rattle.layers.specs.Digits.{IsLayer, digits_of}
 use Rattle.layers.proofs.Laws.Bases.{base-two}
-use Rattle.layers.specs.Laws.Entries.{digits_of-layer, squared}
+use Rattle.layers.specs.Laws.Entries.{digits_of-layer}
+use Rattle.layers.specs.Sizes.{Base}
 use Rattle.rounding.specs.declared.half.Scan.{Scan}
 use Rattle.coding.specs.Counting.{counted_up}
+use Rattle.coding.specs.Laws.Counting.{counted_next}
 use Rattle.slices.specs.Lanes.{Lane, Lanes, high_at, scan_at, Lows, RunPut}
-use Rattle.slices.specs.Laws.Choices.{Chosen, chosen_none, chosen_more, chosen-all}
-use Rattle.coding.specs.Laws.Counting.{digits-zero, counted_next}
-use Rattle.slices.specs.Laws.Lanes.{grid-same, base-few, rounds-sized, rests-sized, high-layer, lane-at, scan-at, last-five}
-use Rattle.slices.specs.Laws.Powers.{run_size, row_count, size_few, rows_few, slice-few, run_room, digit_room, low-within}
+use Rattle.slices.specs.Laws.Choices.{chosen_more, chosen-all}
+use Rattle.slices.specs.Laws.Lanes.{base-few, rounds-sized, rests-sized, high-layer, lane-at, scan-at, last-five}
+use Rattle.slices.specs.Laws.Powers.{run_size, row_count, rows_few, slice-few, run_room, digit_room, low-within}
 use Rattle.slices.specs.Slices.{rounds_of, rests_of, high_digits}
 use Rattle.slices.proofs.choices.fill_choices.Goals as goal
-use Rattle.slices.proofs.choices.fill_choices.Goals.{After-high_digits, After-put_run, After-round_digits, After-scanned-high, In-loop-g, Start}
-use Rattle.slices.proofs.choices.fill_choices.Lts as lts
-use Rattle.slices.proofs.choices.fill_choices.Tie as tie
-use Rattle.slices.proofs.choices.fill_choices.Reads as reads
 
-abbrev After-fill_lows : Type 0
-After-fill_lows = lts.After-fill_lows tie.the-claims reads.Pre reads.Post goal.the-invariant-loop-g goal.the-decreases-loop-g
+-- turn g, and its digits
+record Turn (q : ℤ) (d g : ℕ) (ds : List ℕ) : Type 0 where
+  base : Base q
+  small : nat_abs q ≤ 4
+  last : d < nat_abs q
+  within : g < row_count q
+  ds-is : ds ≡ digits_of (nat_abs q) 4 g
 
-abbrev At-loop-g : Type 0
-At-loop-g = lts.At-loop tie.the-claims reads.Pre reads.Post goal.the-invariant-loop-g goal.the-decreases-loop-g
+-- at the base as the code reads it
+turn : {a : ℤ} → {d g : ℕ} → {ds : List ℕ} → SFits w16 a → Base a → nat_abs a ≤ 4 → d < nat_abs a → g < row_count (to_z w16 (of_z w16 a)) → ds ≡ digits_of (nat_abs (to_z w16 (of_z w16 a))) 4 g → Turn (to_z w16 (of_z w16 a)) d g ds
+turn f b s l w e = record { base = simp (to_z-of_z, f) b; small = simp (to_z-of_z, f) s; last = simp (to_z-of_z, f) l; within = w; ds-is = e }
 
-module _ (s : Start) where
-  abbrev q : ℤ
-  q = s.args.q
-
+module _ {q : ℤ} {d g : ℕ} {ds : List ℕ} (u : Turn q d g ds) where
   abbrev N : ℕ
   N = nat_abs q
-
-  abbrev d : ℕ
-  d = s.args.last
 
   abbrev size : ℕ
   size = run_size q
 
-  abbrev runs : ℕ
-  runs = row_count q
-
   N> : 0 < N
-  N> = omega (arith, base-two q s.requires.0)
+  N> = omega (arith, base-two q u.base)
 
   most : N ≤ 16
-  most = omega (arith, s.requires.1)
+  most = omega (arith, u.small)
 
   few : Few q
-  few = base-few q s.requires.0 most
-
--- the columns of all low digits
-module _ (c : After-fill_lows) where
-  abbrev b : Start
-  b = c.before.before.before
-
-  abbrev lanes : List (List ℤ)
-  lanes = c.fill_lows.new.lanes
-
-  abbrev lows : List (List ℤ)
-  lows = c.fill_lows.new.lows
-
-  lows-are : Lows (q b) (d b) (runs b) lanes lows
-  lows-are = simp (to_z-of_z, b.ranges.q) at c.fill_lows.ensures
-
--- turn g, its digits, their roundings F and what these leave, R
-module _ (c : In-loop-g) where
-  abbrev l : At-loop-g
-  l = c.before.before
-
-  abbrev k : After-fill_lows
-  k = l.before
-
-  abbrev s : Start
-  s = b k
-
-  abbrev g : ℕ
-  g = l.loop-g.g
-
-  abbrev F : List ℤ
-  F = rounds_of (q s) (high_at (q s) (d s) g)
-
-  abbrev R : List ℤ
-  R = rests_of (q s) (high_at (q s) (d s) g)
-
-  within : g < runs s
-  within = simp (to_z-of_z, s.ranges.q) at c.loop-g-test.true
+  few = base-few q u.base most
 
   below : g < 256
-  below = omega (arith, within, rows_few (q s) s.requires.1)
+  below = omega (arith, u.within, rows_few q u.small)
 
-  ds-is : l.loop-g.ds ≡ digits_of (N s) 4 g
-  ds-is = subst (λ (z : ℤ). l.loop-g.ds ≡ digits_of (nat_abs z) 4 g) (to_z-of_z s.ranges.q) l.loop-g.invariant.1
+  digits : IsLayer 4 N ds
+  digits = subst (IsLayer 4 N) (sym u.ds-is) (digits_of-layer N N> 4 g)
 
-  chosen : Chosen (q s) (d s) g l.loop-g.choices l.loop-g.highs
-  chosen = subst (λ (z : ℤ). Chosen z (d s) g l.loop-g.choices l.loop-g.highs) (to_z-of_z s.ranges.q) l.loop-g.invariant.4
+  first-is : get_or ds 0 0 ≡ g % N
+  first-is = ap (λ (l : List ℕ). get_or l 0 0) u.ds-is
 
-  digits : IsLayer 4 (N s) l.loop-g.ds
-  digits = subst (IsLayer 4 (N s)) (sym ds-is) (digits_of-layer (N s) (N> s) 4 g)
+  first-less : get_or ds 0 0 < N
+  first-less = subst (λ (i : ℕ). i < N) (sym first-is) (mod-lt g N>)
 
-  first-is : get_or l.loop-g.ds 0 0 ≡ g % N s
-  first-is = ap (λ (l : List ℕ). get_or l 0 0) ds-is
+  low_room : size * get_or ds 0 0 + size ≤ 256
+  low_room = omega (arith, digit_room q (get_or ds 0 0) first-less, rows_few q u.small)
 
-  first-less : get_or l.loop-g.ds 0 0 < N s
-  first-less = subst (λ (i : ℕ). i < N s) (sym first-is) (mod-lt g (N> s))
+  room : size * g + size ≤ 16384
+  room = omega (arith, run_room q g u.within, slice-few q u.small)
 
-  high : IsLayer 8 (N s) (high_at (q s) (d s) g)
-  high = high-layer (q s) s.requires.0 (most s) (d s) s.requires.2 g
+  high : IsLayer 8 N (high_at q d g)
+  high = high-layer q u.base most d u.last g
 
-  F-sized : Sized 8 2 F
-  F-sized = rounds-sized (q s) s.requires.0 (most s) (high_at (q s) (d s) g) high
+  seen : Part N 5 (scan_at q d g)
+  seen = scan-at q u.base most d u.last g
 
-  R-sized : Sized 8 16 R
-  R-sized = sized-more 8 (N s) R (rests-sized (q s) s.requires.0 (most s) (high_at (q s) (d s) g) high) 16 (most s)
+  lanes-are : {lanes lows : List (List ℤ)} → Lows q d (row_count q) lanes lows → Lanes q (size * (g % N)) size lanes
+  lanes-are k t h = subst (Lane N 3) (sym (k.lane (size * (g % N) + t) (low-within q (base-two q u.base) g t h))) (lane-at q u.base most d u.last (size * (g % N) + t))
 
-  seen : Part (N s) 5 (scan_at (q s) (d s) g)
-  seen = scan-at (q s) s.requires.0 (most s) (d s) s.requires.2 g
+  lanes_first : {lanes lows : List (List ℤ)} → Lows q d (row_count q) lanes lows → Lanes q (size * get_or ds 0 0) size lanes
+  lanes_first {lanes} k = subst (λ (j : ℕ). Lanes q (size * j) size lanes) (sym first-is) (lanes-are k)
 
-  lanes-are : Lanes (q s) (size s * (g % N s)) (size s) (lanes k)
-  lanes-are t h = subst (Lane (N s) 3) (sym ((lows-are k).lane (size s * (g % N s) + t) (low-within (q s) (base-two (q s) s.requires.0) g t h))) (lane-at (q s) s.requires.0 (most s) (d s) s.requires.2 (size s * (g % N s) + t))
+  counted : {es : List ℕ} → es ≡ counted_up N ds → es ≡ digits_of N 4 (g + 1)
+  counted e = e ∙ ap (counted_up N) u.ds-is ∙ counted_next N N> 4 g ∙ ap (digits_of N 4) (sym (add-one g))
 
--- what the calls gave
-module _ (c : After-high_digits) where
-  abbrev i₁ : In-loop-g
-  i₁ = c.before.before
+  -- the roundings of its high digits, and what these leave
+  module _ {r : List ℕ} (r-is : r ≡ high_digits ds d) {f a : List ℤ} (h : (f ≡ rounds_of q r) × (a ≡ rests_of q r)) where
+    digits_are : r ≡ high_at q d g
+    digits_are = r-is ∙ ap (λ (l : List ℕ). high_digits l d) u.ds-is
 
-  digits_are : c.high_digits.result ≡ high_at (q (s i₁)) (d (s i₁)) (g i₁)
-  digits_are = c.high_digits.ensures ∙ ap (λ (l : List ℕ). high_digits l (d (s i₁))) (ds-is i₁)
+    f-is : f ≡ rounds_of q (high_at q d g)
+    f-is = h.0 ∙ ap (rounds_of q) digits_are
 
-module _ (c : After-round_digits) where
-  abbrev made : After-high_digits
-  made = c.before.before.before.before
+    a-is : a ≡ rests_of q (high_at q d g)
+    a-is = h.1 ∙ ap (rests_of q) digits_are
 
-  abbrev i₂ : In-loop-g
-  i₂ = i₁ made
+    f-sized : Sized 8 2 f
+    f-sized = subst (Sized 8 2) (sym f-is) (rounds-sized q u.base most (high_at q d g) high)
 
-  abbrev f : List ℤ
-  f = c.round_digits.new.f
+    a-sized : Sized 8 16 a
+    a-sized = subst (Sized 8 16) (sym a-is) (sized-more 8 N (rests_of q (high_at q d g)) (rests-sized q u.base most (high_at q d g) high) 16 most)
 
-  abbrev a : List ℤ
-  a = c.round_digits.new.a
+    fa : (i : ℕ) → SFits w16 («at» a i)
+    fa i = fits-mag w16 _ (omega (arith, a-sized.small i))
 
-  f-is : f ≡ F i₂
-  f-is = (simp (to_z-of_z, (s i₂).ranges.q) at c.round_digits.ensures).0 ∙ ap (rounds_of (q (s i₂))) (digits_are made)
+    five : «at» a 3 ∷ «at» a 4 ∷ «at» a 5 ∷ «at» a 6 ∷ «at» a 7 ∷ [] ≡ drop 3 (rests_of q (high_at q d g))
+    five = last-five a a-sized.long ∙ ap (drop 3) a-is
 
-  a-is : a ≡ R i₂
-  a-is = (simp (to_z-of_z, (s i₂).ranges.q) at c.round_digits.ensures).1 ∙ ap (rests_of (q (s i₂))) (digits_are made)
+    -- and what the pass over them sees
+    module _ {w : Scan} (w-is : w ≡ scanned_from q 3 5 f a) where
+      scan-is : w ≡ scan_at q d g
+      scan-is = w-is ∙ ap₂ (scanned_from q 3 5) f-is a-is
 
-  a-sized : Sized 8 16 a
-  a-sized = subst (Sized 8 16) (sym a-is) (R-sized i₂)
+      scan_seen : Part N 5 w
+      scan_seen = subst (Part N 5) (sym scan-is) seen
 
-  fa : (i : ℕ) → SFits w16 («at» a i)
-  fa i = fits-mag w16 _ (omega (arith, a-sized.small i))
-
-module _ (c : After-scanned-high) where
-  abbrev rounded : After-round_digits
-  rounded = c.before.before.before.before.before.before.before.before
-
-  abbrev i₃ : In-loop-g
-  i₃ = i₂ rounded
-
-  scan-is : wide c.scanned-high.result ≡ scan_at (q (s i₃)) (d (s i₃)) (g i₃)
-  scan-is = (simp (to_z-of_z, (s i₃).ranges.q) at c.scanned-high.ensures) ∙ ap₂ (scanned_from (q (s i₃)) 3 5) (f-is rounded) (a-is rounded)
-
--- the run, put
-module _ (c : After-put_run) where
-  abbrev passed : After-scanned-high
-  passed = c.before.before.before
-
-  abbrev i₄ : In-loop-g
-  i₄ = i₃ passed
-
-  abbrev choices : List ℕ
-  choices = c.put_run.new.choices
-
-  put_is : RunPut (q (s i₄)) (size (s i₄) * (g i₄ % N (s i₄))) (size (s i₄)) (lanes (k i₄)) (scan_at (q (s i₄)) (d (s i₄)) (g i₄)) (size (s i₄) * g i₄) (l i₄).loop-g.choices choices
-  put_is = let b = s i₄ in
-      subst (λ (n : Scan). RunPut (q b) (size b * (g i₄ % N b)) (size b) (lanes (k i₄)) n (size b * g i₄) (l i₄).loop-g.choices choices) (scan-is passed)
-      (subst (λ (i : ℕ). RunPut (q b) (size b * i) (size b) (lanes (k i₄)) (wide passed.scanned-high.result) (size b * g i₄) (l i₄).loop-g.choices choices) (first-is i₄)
-      (simp (to_z-of_z, b.ranges.q) at c.put_run.ensures))
-
-pub overflow_cast-values : goal.overflow_cast-values
-overflow_cast-values c = simp (to_z-of_z, c.ranges.q) (yes_non_neg (≤ℤ-trans (pos 0) (pos 2) (q c) (record { le = tt }) c.requires.0.least), record { fits = omega (arith, c.requires.1) })
-
-pub overflow_mul-three : goal.overflow_mul-three
-overflow_mul-three c = simp (to_z-of_z, c.ranges.q) (record { fits = omega (arith, squared (N c) c.requires.1) })
-
-pub overflow_mul-three-2 : goal.overflow_mul-three-2
-overflow_mul-three-2 c = simp (to_z-of_z, c.ranges.q) (record { fits = omega (arith, size_few (q c) c.requires.1) })
-
-pub overflow_mul-four : goal.overflow_mul-four
-overflow_mul-four c = simp (to_z-of_z, c.ranges.q) (record { fits = omega (arith, rows_few (q c) c.requires.1) })
-
-pub fill_lows-requires : goal.fill_lows-requires
-fill_lows-requires c = let b = c.before.before in
-    simp (to_z-of_z, b.ranges.q) (b.requires.0, b.requires.1, b.requires.2, rows_few (q b) b.requires.1, grid-same 7 256 (pos 0), b.requires.4)
-
-pub loop-g-init : goal.loop-g-init
-loop-g-init c = let s = b c.before in simp (to_z-of_z, s.ranges.q) (omega arith, sym (digits-zero (N s) 4), refl, refl, chosen_none (q s) (d s) s.args.choices.now s.args.highs.now s.requires.3 s.requires.5)
-
-pub high_digits-requires : goal.high_digits-requires
-high_digits-requires c = (digits c.before).long
-
-pub round_digits-requires : goal.round_digits-requires
-round_digits-requires c = let m = c.before.before.before in let i = i₁ m in
-    simp (to_z-of_z, (s i).ranges.q) ((s i).requires.0, most (s i), subst (IsLayer 8 (N (s i))) (sym (digits_are m)) (high i), (l i).loop-g.invariant.2, (l i).loop-g.invariant.3)
+      put_is : {lanes : List (List ℤ)} → {c c' : List ℕ} → RunPut q (size * get_or ds 0 0) size lanes w (size * g) c c' → RunPut q (size * (g % N)) size lanes (scan_at q d g) (size * g) c c'
+      put_is {lanes} {c} {c'} p =
+          subst (λ (n : Scan). RunPut q (size * (g % N)) size lanes n (size * g) c c') scan-is
+          (subst (λ (i : ℕ). RunPut q (size * i) size lanes w (size * g) c c') first-is p)
 
 pub offset_bounds-highs-g : goal.offset_bounds-highs-g
-offset_bounds-highs-g c = omega (arith, below (i₂ c.before.before.before.before.before))
+offset_bounds-highs-g c = let h = below (turn c.ranges.q c.requires.0 c.requires.1 c.requires.2 c.loop-g-test.true c.loop-g.invariant.1) in omega (arith, h)
 
 pub bounds-highs-g : goal.bounds-highs-g
-bounds-highs-g c = below (i₂ c.before.before.before.before.before)
+bounds-highs-g c = below (turn c.ranges.q c.requires.0 c.requires.1 c.requires.2 c.loop-g-test.true c.loop-g.invariant.1)
 
 pub scanned-high-requires : goal.scanned-high-requires
-scanned-high-requires c = let m = c.before.before.before.before.before.before.before in let i = i₂ m in
-    simp (to_z-of_z, (s i).ranges.q) (subst (Sized 8 2) (sym (f-is m)) (F-sized i), a-sized m, few (s i), omega arith, omega arith)
-
-pub overflow_cast-ds : goal.overflow_cast-ds
-overflow_cast-ds c = let i = i₃ c.before in record { fits = omega (arith, first-less i, most (s i)) }
+scanned-high-requires c = let u = turn c.ranges.q c.requires.0 c.requires.1 c.requires.2 c.loop-g-test.true c.loop-g.invariant.1 in
+    (f-sized u c.high_digits.ensures c.round_digits.ensures, a-sized u c.high_digits.ensures c.round_digits.ensures, few u, omega arith, omega arith)
 
 pub overflow_mul-three-in-loop-g : goal.overflow_mul-three-in-loop-g
-overflow_mul-three-in-loop-g c = let i = i₃ c.before in let b = s i in
-    simp (to_z-of_z, b.ranges.q) (record { fits = omega (arith, digit_room (q b) (get_or (l i).loop-g.ds 0 0) (first-less i), rows_few (q b) b.requires.1) })
+overflow_mul-three-in-loop-g c = let h = low_room (turn c.ranges.q c.requires.0 c.requires.1 c.requires.2 c.loop-g-test.true c.loop-g.invariant.1) in omega (arith, h)
 
 pub overflow_mul-three-in-loop-g-2 : goal.overflow_mul-three-in-loop-g-2
-overflow_mul-three-in-loop-g-2 c = let i = i₃ c.before.before in let b = s i in simp (to_z-of_z, b.ranges.q) (record { fits = omega (arith, run_room (q b) (g i) (within i), slice-few (q b) b.requires.1) })
+overflow_mul-three-in-loop-g-2 c = let h = room (turn c.ranges.q c.requires.0 c.requires.1 c.requires.2 c.loop-g-test.true c.loop-g.invariant.1) in omega (arith, h)
 
 pub put_run-requires : goal.put_run-requires
-put_run-requires c = let m = c.before.before in let i = i₃ m in let b = s i in
-    simp (to_z-of_z, b.ranges.q) (
-      few b,
-      (lows-are (k i)).grid,
-      omega (arith, digit_room (q b) (get_or (l i).loop-g.ds 0 0) (first-less i), rows_few (q b) b.requires.1),
-      subst (λ (j : ℕ). Lanes (q b) (size b * j) (size b) (lanes (k i))) (sym (first-is i)) (lanes-are i),
-      subst (Part (N b) 5) (sym (scan-is m)) (seen i),
-      omega (arith, run_room (q b) (g i) (within i), slice-few (q b) b.requires.1, (chosen i).long),
-      omega (arith, (chosen i).long),
-    )
-
-pub slice_bounds-count_up-end : goal.slice_bounds-count_up-end
-slice_bounds-count_up-end c = sym (digits (i₄ c.before)).long
-
-pub overflow_cast-q : goal.overflow_cast-q
-overflow_cast-q c = let b = s (i₄ c.before) in
-    simp (to_z-of_z, b.ranges.q) (yes_non_neg (≤ℤ-trans (pos 0) (pos 2) (q b) (record { le = tt }) b.requires.0.least), record { fits = omega (arith, b.requires.1) })
-
-pub count_up-requires : goal.count_up-requires
-count_up-requires c = let i = i₄ c.before in simp (to_z-of_z, (s i).ranges.q) (digits i).below
+put_run-requires c =
+    let u = turn c.ranges.q c.requires.0 c.requires.1 c.requires.2 c.loop-g-test.true c.loop-g.invariant.1 in
+    let h = room u in
+    let long = c.loop-g.invariant.4.long in
+    (few u, c.fill_lows.ensures.grid, low_room u, lanes_first u c.fill_lows.ensures, scan_seen u c.high_digits.ensures c.round_digits.ensures c.scanned-high.ensures, omega (arith, h, long), omega (arith, long))
 
 pub overflow_add-g : goal.overflow_add-g
-overflow_add-g c = omega (arith, below (i₄ c.before.before.before))
-
-pub loop-g-smaller : goal.loop-g-smaller
-loop-g-smaller c = let i = i₄ c.before.before.before in simp (to_z-of_z, (s i).ranges.q) (omega (arith, within i))
+overflow_add-g c = let h = below (turn c.ranges.q c.requires.0 c.requires.1 c.requires.2 c.loop-g-test.true c.loop-g.invariant.1) in omega (arith, h)
 
 pub loop-g-preserved : goal.loop-g-preserved
-loop-g-preserved c = let p = c.before.before.before in let i = i₄ p in let b = s i in let m = rounded (passed p) in let f = fa m in
-    let five : «at» (a m) 3 ∷ «at» (a m) 4 ∷ «at» (a m) 5 ∷ «at» (a m) 6 ∷ «at» (a m) 7 ∷ [] ≡ drop 3 (R i) = last-five (a m) (a-sized m).long ∙ ap (drop 3) (a-is m) in
-    simp (to_z-of_z, b.ranges.q, f 3, f 4, f 5, f 6, f 7) (
-      omega (arith, within i),
-      (simp (to_z-of_z, b.ranges.q) at c.before.count_up.ensures) ∙ ap (counted_up (N b)) (ds-is i) ∙ counted_next (N b) (N> b) 4 (g i) ∙ ap (digits_of (N b) 4) (sym (add-one (g i))),
-      ap length (f-is m) ∙ (F-sized i).long,
-      (a-sized m).long,
-      chosen_more (q b) b.requires.0 b.requires.1 (d b) b.requires.2 (lanes (k i)) (lows (k i)) (lows-are (k i)) (g i) (within i) (l i).loop-g.choices (choices p) (l i).loop-g.highs («at» (a m) 3 ∷ «at» (a m) 4 ∷ «at» (a m) 5 ∷ «at» (a m) 6 ∷ «at» (a m) 7 ∷ []) (chosen i) (put_is p) five,
+loop-g-preserved c =
+    let u = turn c.ranges.q c.requires.0 c.requires.1 c.requires.2 c.loop-g-test.true c.loop-g.invariant.1 in
+    let q : ℤ = to_z w16 (of_z w16 c.args.q) in
+    let e = c.high_digits.ensures in
+    let r = c.round_digits.ensures in
+    let a = c.round_digits.new.a in
+    let f = fa u e r in
+    let counted-up : c.count_up.new.ds ≡ digits_of (nat_abs q) 4 (c.loop-g.g + 1) = counted u c.count_up.ensures in
+    let within : c.loop-g.g < row_count q = c.loop-g-test.true in
+    simp (to_z-of_z, f 3, f 4, f 5, f 6, f 7) (
+      omega (arith, within),
+      counted-up,
+      (f-sized u e r).long,
+      (a-sized u e r).long,
+      chosen_more q u.base u.small c.args.last u.last c.fill_lows.new.lanes c.fill_lows.new.lows c.fill_lows.ensures c.loop-g.g within c.loop-g.choices c.put_run.new.choices c.loop-g.highs («at» a 3 ∷ «at» a 4 ∷ «at» a 5 ∷ «at» a 6 ∷ «at» a 7 ∷ []) c.loop-g.invariant.4 (put_is u e r c.scanned-high.ensures c.put_run.ensures) (five u e r),
     )
 
 pub returns : goal.returns
-returns c = let l = c.before in let k = l.before in let s = b k in
-    chosen-all (q s) s.requires.0 s.requires.1 (d s) s.requires.2 (lanes k) (lows k) (lows-are k) l.loop-g.g l.loop-g.choices l.loop-g.highs (simp (to_z-of_z, s.ranges.q) at c.loop-g-test.false)
-    (subst (λ (z : ℤ). Chosen z (d s) l.loop-g.g l.loop-g.choices l.loop-g.highs) (to_z-of_z s.ranges.q) l.loop-g.invariant.4)
+returns c =
+    let fq = c.ranges.q in
+    let lows = simp (to_z-of_z, fq) at c.fill_lows.ensures in
+    let chosen = simp (to_z-of_z, fq) at c.loop-g.invariant.4 in
+    chosen-all c.args.q c.requires.0 c.requires.1 c.args.last c.requires.2 c.fill_lows.new.lanes c.fill_lows.new.lows lows c.loop-g.g c.loop-g.choices c.loop-g.highs (simp (to_z-of_z, fq) at c.loop-g-test.false) chosen

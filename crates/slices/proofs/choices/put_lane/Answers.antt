@@ -1,11 +1,10 @@
 -- `put_lane` goes down the rows: after j turns the first j have their entry.
-use Prim.Native.Nat.{◌-◌, ◌≤◌}
 use native.Mathlib.Omega.{arith}
 use mir.Syntax.{w16}
 use mir.Val.{SFits}
 use mir.Facts.{to_z-of_z}
 use Rattle.integers.specs.Vectors.{«at»}
-use Rattle.slices.specs.Laws.Lanes.{Putting, putting-none, putting-more, putting-all}
+use Rattle.slices.specs.Laws.Lanes.{putting-none, putting-more, putting-all}
 use Rattle.slices.proofs.choices.put_lane.Goals as goal
 use Rattle.slices.proofs.choices.put_lane.Goals.{After-lanes-1, At-loop-j, Start}
 

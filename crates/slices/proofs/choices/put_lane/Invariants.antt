@@ -1,11 +1,6 @@
 -- `put_lane` goes down the rows: after j turns the first j have their entry.
 use Prim.Native.Nat.{◌-◌, ◌≤◌}
-use native.Mathlib.Omega.{arith}
-use mir.Syntax.{w16}
-use mir.Val.{SFits}
-use mir.Facts.{to_z-of_z}
-use Rattle.integers.specs.Vectors.{«at»}
-use Rattle.slices.specs.Laws.Lanes.{Putting, putting-none, putting-more, putting-all}
+use Rattle.slices.specs.Laws.Lanes.{Putting}
 use Rattle.slices.proofs.choices.put_lane.Given as goal
 
 abbrev pub invariant-loop-j : goal.invariant-loop-j

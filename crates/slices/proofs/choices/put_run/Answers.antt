@@ -30,16 +30,6 @@ module _ (s : Start) where
   part-long : length (take (i + n - i) (drop i found)) ≡ n
   part-long = simp (length-take, length-drop) (omega (arith, s.requires.5))
 
-pub overflow_add-to : goal.overflow_add-to
-overflow_add-to c = let s = c.before in omega (arith, s.requires.5, s.requires.6)
-
-pub slice_bounds-choose_run-end : goal.slice_bounds-choose_run-end
-slice_bounds-choose_run-end c = c.before.requires.5
-
-pub choose_run-requires : goal.choose_run-requires
-choose_run-requires c = let s = c.before.before in
-    simp (to_z-of_z, s.ranges.q) (s.requires.0, s.requires.1, omega (arith, part-long s, s.requires.2), λ t h. s.requires.3 t (omega (arith, part-long s)), s.requires.4)
-
 -- the entries are chosen, and come back
 module _ (c : After-choose_run) where
   abbrev b : Start
@@ -63,9 +53,6 @@ module _ (c : After-choose_run) where
   put_is : RunPut q b.args.from (n b) lanes high (i b) (found b) (put_mid (i b) (i b + n b - i b) (found b) run)
   put_is = subst (λ (m : ℕ). RunPut q b.args.from (n b) lanes high (i b) (found b) (put_mid (i b) m (found b) run)) (sym (whole b))
       (run-put q b.args.from (n b) lanes high (i b) (found b) run b.requires.5 run_is)
-
-pub shape_of-choices : goal.shape_of-choices
-shape_of-choices c = (put_is c.before.before.before).long
 
 pub returns : goal.returns
 returns c = put_is c.before.before.before

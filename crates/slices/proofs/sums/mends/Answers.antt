@@ -1,12 +1,12 @@
 -- `mends` fills the list choice by choice: after c turns the first c are right.
 use mathlib.Core.Path.{refl, sym, ap}
 use mathlib.Core.List.{List}
-use Prim.Native.Nat.{ℕ, ◌+◌, ◌*◌, ◌-◌, ◌/◌, ◌%◌}
+use Prim.Native.Nat.{ℕ, ◌+◌, ◌*◌, ◌/◌, ◌%◌}
 use native.Mathlib.Omega.{arith}
 use lib.IntN.{ℤ, pos, ◌-ℤ◌, ◌*ℤ◌}
 use lib.ListN.{set}
-use mir.Syntax.{w16, w32}
-use mir.Val.{SFits, to_z}
+use mir.Syntax.{w32}
+use mir.Val.{SFits}
 use mir.Facts.{to_z-of_z}
 use Rattle.integers.specs.Vectors.{«at», range}
 use Rattle.integers.specs.Laws.Loops.{range-long, Filled, filled_more, filled-all}

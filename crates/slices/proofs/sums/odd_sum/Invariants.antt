@@ -1,20 +1,10 @@
 -- `odd_sum` sums the products: after i turns the inner product of the first i readings with the first i coordinates, lowered.
-use mathlib.Core.Path.{◌≡◌, refl, sym, ◌∙◌, ap, ap₂, subst}
-use mathlib.Core.List.{List, map}
-use Prim.Native.Nat.{ℕ, suc, ◌-◌, ◌^◌, ◌≤◌}
-use native.Mathlib.Numerals.{add-one}
-use native.Mathlib.Omega.{arith}
-use lib.IntN.{ℤ, nat_abs, ◌+ℤ◌, ◌*ℤ◌}
-use lib.ListN.{length, take, length-map}
-use lib.Seq.{take_all}
-use mir.Syntax.{w16, w32}
-use mir.Val.{SFits, to_z}
-use mir.Facts.{to_z-of_z}
-use Rattle.integers.specs.Vectors.{«at», dot, Bounded}
-use Rattle.integers.specs.Laws.Sizes.{fits-mag, abs-mul-le}
-use Rattle.integers.specs.Laws.Sums.{dot-take-suc, dot-bound, at_map}
+use mathlib.Core.Path.{◌≡◌}
+use mathlib.Core.List.{map}
+use Prim.Native.Nat.{◌-◌, ◌≤◌}
+use lib.ListN.{length, take}
+use Rattle.integers.specs.Vectors.{dot}
 use Rattle.rounding.specs.Rounding.{lowered}
-use Rattle.slices.specs.Laws.Sums.{lowered-sized}
 use Rattle.slices.proofs.sums.odd_sum.Given as goal
 
 abbrev pub invariant-loop-i : goal.invariant-loop-i

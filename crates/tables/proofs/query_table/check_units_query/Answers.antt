@@ -1,46 +1,38 @@
 -- `check_units_query` checks the settings and q, then what is lent.
-use mathlib.Core.Path.{◌≡◌, sym, ◌∙◌}
-use mathlib.Core.List.{[], ◌∷◌}
+use Rattle.std.proofs.Common.{◌≡◌, sym, ◌∙◌, List, [], ◌∷◌, ℕ, ℤ}
 use Rattle.records.specs.Eight.Vectors.{Hour, units_hour, check_readings}
 use Rattle.refusals.specs.declared.Verdict.{Verdict}
+use Rattle.refusals.specs.declared.settings.Settings.{Settings}
 use Rattle.refusals.specs.Laws.Verdicts.{first-last, first_group}
+use Rattle.refusals.specs.Settings.{check_settings}
 use Rattle.refusals.specs.Verdicts.{first_refusal}
-use Rattle.tables.specs.Filling.{check_query_table, lent_asked}
+use Rattle.tables.specs.Filling.{check_table, check_query_table, lent_asked}
 use Rattle.tables.specs.Laws.Filling.{q-taken, asked_is, query-table-is}
+use Rattle.tables.specs.Tables.{query_most}
 use Rattle.tables.proofs.query_table.check_units_query.Goals as goal
-use Rattle.tables.proofs.query_table.check_units_query.Goals.{After-check_q, Start}
 
-module _ (c : After-check_q) where
-  abbrev s : Start
-  s = c.before
-
+module _ (s : Settings) (x : List ℤ) (room : ℕ) where
   abbrev h : Hour
-  h = units_hour s.args.x.now
+  h = units_hour x
 
   -- the readings, and all that is checked after q
   abbrev readings : Verdict
   readings = check_readings 0 h.readings
 
   abbrev lent : Verdict
-  lent = first_refusal (lent_asked s.args.s h s.args.room ∷ readings ∷ [])
+  lent = first_refusal (lent_asked s h room ∷ readings ∷ [])
 
   -- by what is said of the settings and q
-  decided : (v : Verdict) → c.check_q.result ≡ v → first_refusal (v ∷ lent ∷ []) ≡ check_query_table s.args.s h s.args.room
-  decided v d = let asked : Verdict = lent_asked s.args.s h s.args.room in
-      sym (query-table-is s.args.s h s.args.room _ (asked_is s.args.s h s.args.room v (sym c.check_q.ensures ∙ d))
+  decided : (v : Verdict) → v ≡ first_refusal (check_settings s ∷ check_table query_most s ∷ []) → first_refusal (v ∷ lent ∷ []) ≡ check_query_table s h room
+  decided v d = let asked : Verdict = lent_asked s h room in
+      sym (query-table-is s h room _ (asked_is s h room v (sym d))
       ∙ sym (first_group [] (v ∷ asked ∷ []) (readings ∷ [])) ∙ first_group (v ∷ []) (asked ∷ readings ∷ []) [])
 
-pub enum_known-r : goal.enum_known-r
-enum_known-r c = c.in-Refused.keys1
-
-pub enum_told-1 : goal.enum_told-1
-enum_told-1 c = c.in-Accepted.keys2
-
 pub check_units_lent-requires : goal.check_units_lent-requires
-check_units_lent-requires c = let k = c.before.before in q-taken (s k).args.s (sym k.check_q.ensures ∙ c.enum_told-1.given.1)
+check_units_lent-requires c = q-taken c.args.s (sym c.in-Accepted.ensures)
 
 pub returns-in-Refused : goal.returns-in-Refused
-returns-in-Refused c = decided c.before.before.before _ c.before.r-1.given.1
+returns-in-Refused c = decided c.args.s c.args.x.now c.args.room _ c.in-Refused.ensures
 
 pub returns-in-Accepted : goal.returns-in-Accepted
-returns-in-Accepted c = let t = c.before in let k = t.before.before in c.check_units_lent.ensures ∙ sym (first-last (lent k)) ∙ decided k _ t.enum_told-1.given.1
+returns-in-Accepted c = c.check_units_lent.ensures ∙ sym (first-last (lent c.args.s c.args.x.now c.args.room)) ∙ decided c.args.s c.args.x.now c.args.room _ c.in-Accepted.ensures
