@@ -18,7 +18,7 @@ use Rattle.lookups.specs.Scoring.{block_pair_by}
 use Rattle.lookups.proofs.pair_score.total_by.Given as goal
 
 abbrev pub invariant-loop-i : goal.invariant-loop-i
-invariant-loop-i l =     (l.i ≤ l.k) × (l.z ≡ total (block_pair_by l.m l.steps l.steps2 l.table) (cut (block_size l.m) l.i l.body) (cut (block_size l.m) l.i l.body2)) × (nat_abs l.z ≤ l.i * 2 ^ 35)
+invariant-loop-i l = (l.i ≤ l.k) × (l.z ≡ total (block_pair_by l.m l.steps l.steps2 l.table) (cut (block_size l.m) l.i l.body) (cut (block_size l.m) l.i l.body2)) × (nat_abs l.z ≤ l.i * 2 ^ 35)
 
 abbrev pub decreases-loop-i : goal.decreases-loop-i
 decreases-loop-i l = l.k - l.i

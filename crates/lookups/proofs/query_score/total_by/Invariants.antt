@@ -21,7 +21,7 @@ use Rattle.tables.specs.Tables.{part_size}
 use Rattle.lookups.proofs.query_score.total_by.Given as goal
 
 abbrev pub invariant-loop-i : goal.invariant-loop-i
-invariant-loop-i l =     (l.i ≤ l.k) × (l.z ≡ total (block_query_by (nat_abs l.q) l.m l.steps) (cut (part_size (nat_abs l.q)) l.i l.table) (cut (block_size l.m) l.i l.body)) × (nat_abs l.z ≤ l.i * 2 ^ 53)
+invariant-loop-i l = (l.i ≤ l.k) × (l.z ≡ total (block_query_by (nat_abs l.q) l.m l.steps) (cut (part_size (nat_abs l.q)) l.i l.table) (cut (block_size l.m) l.i l.body)) × (nat_abs l.z ≤ l.i * 2 ^ 53)
 
 abbrev pub decreases-loop-i : goal.decreases-loop-i
 decreases-loop-i l = l.k - l.i

@@ -72,6 +72,8 @@ returns-in-Refused c = let v = c.args in
 
 pub returns-in-Accepted : goal.returns-in-Accepted
 returns-in-Accepted c = let a = (goal.at.returns-in-Accepted c).After-take_fvecs_hour in let e = c.in-Accepted.is in let v = c.args in
-    record { answer = c.score_units.ensures
-    ∙ ap (λ (x : List ℤ). valued (check_code (length v.steps.now) (nat_abs v.s.q) (nat_abs v.s.m) (length x / 8) (length x / 8) 0 0 v.code.now) (query_total (nat_abs v.s.q) (nat_abs v.s.m) v.steps.now x v.code.now)) (x-is a e _ c.word_at-n.ensures)
-    ∙ query_score-is v.s v.steps.now (fvecs_hour v.query.now) v.code.now (accepted a e) (X a e) refl (taken a e).long }
+    record {
+      answer = c.score_units.ensures
+          ∙ ap (λ (x : List ℤ). valued (check_code (length v.steps.now) (nat_abs v.s.q) (nat_abs v.s.m) (length x / 8) (length x / 8) 0 0 v.code.now) (query_total (nat_abs v.s.q) (nat_abs v.s.m) v.steps.now x v.code.now)) (x-is a e _ c.word_at-n.ensures)
+          ∙ query_score-is v.s v.steps.now (fvecs_hour v.query.now) v.code.now (accepted a e) (X a e) refl (taken a e).long;
+    }

@@ -143,12 +143,12 @@ stands c =
     let S : List (List ℤ) → Type 0 = Standing q m k body i in
     let narrow : SFits w16 c.args.q = q-narrow c.args.q m c.args.steps.now c.requires.0 in
     elim c.if-i-eq0.branch [
-      then-i-eq0 w ↦
-        subst S (sym w.e-is) (
+      | then-i-eq0 w ↦
+          subst S (sym w.e-is) (
           standing-first q m k body i w.eight_points-e.result w.smaller.result w.smaller.ensures w.if-i-eq0.true
           (subst (λ (f : List ℕ). BlockPoints q m w.smaller.result f w.eight_points-e.result) (rest-is c.block_size-n.result m i body c.block_size-n.ensures) (simp (to_z-of_z, c.ranges.q, narrow) at w.eight_points-e.ensures))
-        )
-    | else-i-eq0 w ↦ subst S (sym w.e-is) (simp (to_z-of_z, c.ranges.q) at (c.loop-i.invariant.2 w.if-i-eq0.false))
+          )
+      | else-i-eq0 w ↦ subst S (sym w.e-is) (simp (to_z-of_z, c.ranges.q) at (c.loop-i.invariant.2 w.if-i-eq0.false))
     ]
 
 pub eight_points-e-requires : goal.eight_points-e-requires
@@ -179,10 +179,10 @@ loop-i-preserved c = let p = goal.at.loop-i-preserved c in let b = p.In-loop-i i
     let d-fits : SFits w64 c.column_dot.result = record { sfits = c.column_dot.type_inv } in
     let fits : SFits w64 (c.step_of.result *ℤ c.column_dot.result) = y-fits b _ s _ _ c.step_of.ensures c.column_dot.ensures in
     let more : SFits w64 (sum b (i b) +ℤ c.step_of.result *ℤ c.column_dot.result) = more-fits b _ s _ _ c.step_of.ensures c.column_dot.ensures in (
-  omega (arith, c.loop-i-test.true),
-  simp (to_z-of_z, c.ranges.q, a-fits, d-fits, fits, sum_is b, more) (more-is b _ s _ _ c.step_of.ensures c.column_dot.ensures),
-  λ n. subst (λ (w : ℕ). Standing w (m b) (k b) (body b) (i b + 1) c.if-i-eq0.e) (ap nat_abs (sym (to_z-of_z c.ranges.q))) (standing-next (q b) (m b) (k b) (body b) (i b) c.if-i-eq0.e s n),
-)
+      omega (arith, c.loop-i-test.true),
+      simp (to_z-of_z, c.ranges.q, a-fits, d-fits, fits, sum_is b, more) (more-is b _ s _ _ c.step_of.ensures c.column_dot.ensures),
+      λ n. subst (λ (w : ℕ). Standing w (m b) (k b) (body b) (i b + 1) c.if-i-eq0.e) (ap nat_abs (sym (to_z-of_z c.ranges.q))) (standing-next (q b) (m b) (k b) (body b) (i b) c.if-i-eq0.e s n),
+    )
 
 pub returns : goal.returns
 returns c =

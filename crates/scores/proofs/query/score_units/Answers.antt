@@ -76,12 +76,12 @@ pub query_body-requires : goal.query_body-requires
 query_body-requires c = let a = (goal.at.query_body-requires c).After-check_code in let w = whole a in
     let fits : SFits w64 c.base.result = record { sfits = c.base.type_inv } in
     let q-is : to_z w64 (of_z w64 c.base.result) ≡ c.args.s.q = to_z-of_z fits ∙ c.base.ensures in (
-  subst₂ (λ (z : ℤ) (m : ℕ). Coder z m (steps a)) (sym q-is) (sym c.layers-m.ensures) c.requires.0.coder,
-  record { long = w.times; small = c.requires.1.small },
-  subst₂ (λ (z : ℤ) (m : ℕ). AreBlocks (length (steps a)) (nat_abs z) m (K a) (lent a)) (sym q-is) (sym c.layers-m.ensures)
-      (subst₂ (AreBlocks (length (steps a)) (q a) (m a)) (count a c.in-Accepted.is) (sym (rest-whole 4 (code a))) (taken a c.in-Accepted.is).blocks),
-  w.few,
-)
+      subst₂ (λ (z : ℤ) (m : ℕ). Coder z m (steps a)) (sym q-is) (sym c.layers-m.ensures) c.requires.0.coder,
+      record { long = w.times; small = c.requires.1.small },
+      subst₂ (λ (z : ℤ) (m : ℕ). AreBlocks (length (steps a)) (nat_abs z) m (K a) (lent a)) (sym q-is) (sym c.layers-m.ensures)
+          (subst₂ (AreBlocks (length (steps a)) (q a) (m a)) (count a c.in-Accepted.is) (sym (rest-whole 4 (code a))) (taken a c.in-Accepted.is).blocks),
+      w.few,
+    )
 
 pub returns-in-Refused : goal.returns-in-Refused
 returns-in-Refused c = let a = (goal.at.returns-in-Refused c).After-check_code in c.refused.ensures ∙ ap (λ (v : Verdict). valued v (value a)) (sym c.in-Refused.is ∙ checked a)

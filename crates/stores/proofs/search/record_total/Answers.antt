@@ -102,13 +102,19 @@ query_total_by-requires c = let e = c.before in let a = s e in simp (to_z-of_z, 
 
 pub returns-then-entries-eq0 : goal.returns-then-entries-eq0
 unfolding Rattle.scores.specs.Scores.query_total
-returns-then-entries-eq0 c = let s = c.before.before.before.before.before in let f : SFits w64 c.query_total.result = record { sfits = c.query_total.type_inv } in record { answer = to_z-of_z f ∙ (simp (to_z-of_z, s.ranges.q) at c.query_total.ensures.answer)
+returns-then-entries-eq0 c = let s = c.before.before.before.before.before in let f : SFits w64 c.query_total.result = record { sfits = c.query_total.type_inv } in record {
+  answer = to_z-of_z f ∙ (simp (to_z-of_z, s.ranges.q) at c.query_total.ensures.answer)
       ∙ ap₂ (λ (n : ℕ) (f : List ℕ). total (block_query (q s) (m s) (steps s)) (cut 8 (k s) (X s)) (cut (block_size (m s)) n f)) (sym (count s)) (rest-whole 4 (code s))
-      ∙ ap (λ (n : ℕ). total (block_query (q s) (m s) (steps s)) (cut 8 n (X s)) (cut (block_size (m s)) (blocks_in (m s) (code s)) (drop 4 (code s)))) (sym (count-x s)); room = ap length (simp (to_z-of_z, s.ranges.q) at c.query_total.ensures.room) ∙ same-room s (eqb (q s) 2) }
+      ∙ ap (λ (n : ℕ). total (block_query (q s) (m s) (steps s)) (cut 8 n (X s)) (cut (block_size (m s)) (blocks_in (m s) (code s)) (drop 4 (code s)))) (sym (count-x s));
+  room = ap length (simp (to_z-of_z, s.ranges.q) at c.query_total.ensures.room) ∙ same-room s (eqb (q s) 2);
+}
 
 pub returns-else-entries-eq0 : goal.returns-else-entries-eq0
 unfolding query_total_by
-returns-else-entries-eq0 c = let e = c.before.before in let a = s e in let f : SFits w64 c.query_total_by.result = record { sfits = c.query_total_by.type_inv } in record { answer = to_z-of_z f ∙ (simp (to_z-of_z, a.ranges.q) at c.query_total_by.ensures)
+returns-else-entries-eq0 c = let e = c.before.before in let a = s e in let f : SFits w64 c.query_total_by.result = record { sfits = c.query_total_by.type_inv } in record {
+  answer = to_z-of_z f ∙ (simp (to_z-of_z, a.ranges.q) at c.query_total_by.ensures)
       ∙ ap₂ (λ (n : ℕ) (f : List ℕ). total (block_query_by (q a) (m a) (steps a)) (cut (part_size (q a)) n (entries a)) (cut (block_size (m a)) n f)) (sym (count a)) (rest-whole 4 (code a))
       ∙ ap (λ (t : List ℤ). query_total_by (q a) (m a) (steps a) t (code a)) (look e).1.1
-      ∙ query-totals (q a) (m a) (steps a) (X a) (look e).1.0 (code a) (count a ∙ sym (count-x a)) (λ i l. (taken-block (length (steps a)) (q a) (m a) (k a) (k a) (code a) a.requires.4 i l).code); room = a.requires.6 }
+      ∙ query-totals (q a) (m a) (steps a) (X a) (look e).1.0 (code a) (count a ∙ sym (count-x a)) (λ i l. (taken-block (length (steps a)) (q a) (m a) (k a) (k a) (code a) a.requires.4 i l).code);
+  room = a.requires.6;
+}

@@ -151,5 +151,8 @@ pub shape_of-entries : goal.shape_of-entries
 shape_of-entries c = c.before.before.before.entries-1.given
 
 pub returns-in-Accepted : goal.returns-in-Accepted
-returns-in-Accepted c = let f = c.before.before.before.before in let b = d f in let e = a f in let w = sym (accepted b.before) in record { answer = c.hour_found.ensures ∙ ap (found Accepted) (c.before.best_body.ensures ∙ ap₂ (λ (z : ℤ) (m : ℕ). best_in (nat_abs z) m (steps e) (X e) (K e) (store e)) (q-is b) (m-is e))
-      ∙ ap (λ (v : Verdict). found v (best e)) w; room = filled_is f ∙ ap (λ (n : ℕ). query_table (q e) (X e) ++ drop n (out f)) (sym (query_table-long (q e) (X e))) ∙ ap (λ (v : Verdict). written v (query_table (q e) (X e)) (out f)) w }
+returns-in-Accepted c = let f = c.before.before.before.before in let b = d f in let e = a f in let w = sym (accepted b.before) in record {
+  answer = c.hour_found.ensures ∙ ap (found Accepted) (c.before.best_body.ensures ∙ ap₂ (λ (z : ℤ) (m : ℕ). best_in (nat_abs z) m (steps e) (X e) (K e) (store e)) (q-is b) (m-is e))
+      ∙ ap (λ (v : Verdict). found v (best e)) w;
+  room = filled_is f ∙ ap (λ (n : ℕ). query_table (q e) (X e) ++ drop n (out f)) (sym (query_table-long (q e) (X e))) ∙ ap (λ (v : Verdict). written v (query_table (q e) (X e)) (out f)) w;
+}
