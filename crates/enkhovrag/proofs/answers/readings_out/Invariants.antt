@@ -1,9 +1,6 @@
 -- `readings_out` copies reading by reading: after i turns the first i entries are right.
-use mathlib.Core.Path.{refl}
 use Prim.Native.Nat.{◌-◌}
-use native.Mathlib.Omega.{arith}
-use borrow.Author.Rules.{rules}
-use Rattle.integers.specs.Laws.Loops.{Filled, filled_more, filled-all}
+use Rattle.integers.specs.Laws.Loops.{Filled}
 use Rattle.enkhovrag.specs.Answers.{reading_out}
 use Rattle.enkhovrag.proofs.answers.readings_out.Given as goal
 

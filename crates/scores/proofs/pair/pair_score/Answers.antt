@@ -16,7 +16,7 @@ use Rattle.refusals.specs.declared.Verdict.TheVariants.{Accepted}
 use Rattle.refusals.specs.Answers.{valued}
 use Rattle.scores.specs.Eight.Asked.{exact-blocks}
 use Rattle.scores.specs.Eight.Pair.{PairTaken, pair-taken}
-use Rattle.scores.specs.Eight.Scores.{total, block_pair, pair_total, check_pair, pair_score}
+use Rattle.scores.specs.Eight.Scores.{total, block_pair, pair_total, check_pair}
 use Rattle.scores.proofs.pair.pair_score.Goals as goal
 use Rattle.scores.proofs.pair.pair_score.Goals.{After-blocks_in-k, After-check_pair}
 

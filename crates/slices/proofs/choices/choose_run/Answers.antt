@@ -98,3 +98,7 @@ loop-t-preserved c = let d = j c in let b = l d in let inv = simp (to_z-of_z, (s
       length-set b.loop-t.run (t d) c.code.result ∙ inv.1,
       run_more (q d) (s d).args.from (lanes d) (high d) (t d) b.loop-t.run c.code.result d.loop-t-test.true inv.2 (code_is c),
     )
+
+pub returns : goal.returns
+returns c = let inv = simp (to_z-of_z, c.ranges.q) at c.loop-t.invariant in
+    record { long = inv.1; each = λ t h. inv.2 t (omega (arith, c.loop-t-test.false, c.loop-t.invariant.1)) }

@@ -1,8 +1,10 @@
 -- `fill_choices` counts the high digits up: after g turns the first g runs are chosen, and the first g lists what is left.
-use Rattle.std.proofs.Common.{◌≡◌, sym, ◌∙◌, ap, ap₂, subst, List, [], ◌∷◌, ℕ, ◌+◌, ◌*◌, ◌%◌, ◌<◌, ◌≤◌, ℤ, nat_abs, get_or, drop, mod-lt, add-one, arith}
+use Rattle.std.proofs.Common.{◌≡◌, sym, ◌∙◌, ap, ap₂, subst, List, [], ◌∷◌, ℕ, ◌+◌, ◌*◌, ◌%◌, ◌<◌, ◌≤◌, ℤ, pos, nat_abs, get_or, drop, mod-lt, add-one, arith}
+use lib.Signed.{yes_non_neg}
 use mir.Syntax.{w16}
 use mir.Val.{SFits, to_z, of_z}
 use mir.Facts.{to_z-of_z}
+use Rattle.integers.specs.Laws.Signed.{≤ℤ-trans}
 use Rattle.integers.specs.Laws.Sizes.{fits-mag}
 use Rattle.integers.specs.Laws.Sums.{sized-more}
 use Rattle.integers.specs.Vectors.{«at», Sized}
@@ -16,7 +18,7 @@ use Rattle.coding.specs.Counting.{counted_up}
 use Rattle.coding.specs.Laws.Counting.{counted_next}
 use Rattle.slices.specs.Lanes.{Lane, Lanes, high_at, scan_at, Lows, RunPut}
 use Rattle.slices.specs.Laws.Choices.{chosen_more, chosen-all}
-use Rattle.slices.specs.Laws.Lanes.{base-few, rounds-sized, rests-sized, high-layer, lane-at, scan-at, last-five}
+use Rattle.slices.specs.Laws.Lanes.{grid-same, base-few, rounds-sized, rests-sized, high-layer, lane-at, scan-at, last-five}
 use Rattle.slices.specs.Laws.Powers.{run_size, row_count, rows_few, slice-few, run_room, digit_room, low-within}
 use Rattle.slices.specs.Slices.{rounds_of, rests_of, high_digits}
 use Rattle.slices.proofs.choices.fill_choices.Goals as goal
@@ -118,6 +120,9 @@ module _ {q : ℤ} {d g : ℕ} {ds : List ℕ} (u : Turn q d g ds) where
           subst (λ (n : Scan). RunPut q (size * (g % N)) size lanes n (size * g) c c') scan-is
           (subst (λ (i : ℕ). RunPut q (size * i) size lanes w (size * g) c c') first-is p)
 
+pub fill_lows-requires : goal.fill_lows-requires
+fill_lows-requires c = simp (to_z-of_z, c.ranges.q) (c.requires.0, c.requires.1, c.requires.2, rows_few c.args.q c.requires.1, grid-same 7 256 (pos 0), c.requires.4)
+
 pub offset_bounds-highs-g : goal.offset_bounds-highs-g
 offset_bounds-highs-g c = let h = below (turn c.ranges.q c.requires.0 c.requires.1 c.requires.2 c.loop-g-test.true c.loop-g.invariant.1) in omega (arith, h)
 
@@ -140,6 +145,9 @@ put_run-requires c =
     let h = room u in
     let long = c.loop-g.invariant.4.long in
     (few u, c.fill_lows.ensures.grid, low_room u, lanes_first u c.fill_lows.ensures, scan_seen u c.high_digits.ensures c.round_digits.ensures c.scanned-high.ensures, omega (arith, h, long), omega (arith, long))
+
+pub overflow_cast-q : goal.overflow_cast-q
+overflow_cast-q c = simp (to_z-of_z, c.ranges.q) (yes_non_neg (≤ℤ-trans (pos 0) (pos 2) c.args.q (record { le = tt }) c.requires.0.least), record { fits = omega (arith, c.requires.1) })
 
 pub overflow_add-g : goal.overflow_add-g
 overflow_add-g c = let h = below (turn c.ranges.q c.requires.0 c.requires.1 c.requires.2 c.loop-g-test.true c.loop-g.invariant.1) in omega (arith, h)
