@@ -1,17 +1,12 @@
 -- `block_pair_by` goes from the first block's top layer down: it holds the sums of the rows of the layers from i on, which stay small whatever the table holds.
-use mathlib.Core.Path.{◌≡◌, sym, ◌∙◌, ap, ap₂, subst}
-use mathlib.Core.List.{List, map}
-use Prim.Native.Nat.{ℕ, ◌+◌, ◌*◌, ◌-◌, ◌^◌, ◌<◌, ◌≤◌}
-use native.Mathlib.Omega.{arith}
-use lib.IntN.{ℤ, pos, nat_abs, ◌+ℤ◌, ◌*ℤ◌}
-use lib.ListN.{length, take, drop, length-take, length-drop}
-use mir.Syntax.{w64}
-use mir.Val.{SFits, to_z}
+use Rattle.std.proofs.Common.{◌≡◌, sym, ◌∙◌, ap, ap₂, subst, List, map, ℕ, ◌+◌, ◌*◌, ◌-◌, ◌^◌, ◌<◌, ◌≤◌, ℤ, pos, nat_abs, ◌+ℤ◌, ◌*ℤ◌, length, take, drop, arith, w64, to_z}
+use mir.Val.{SFits}
 use mir.Facts.{to_z-of_z}
+use lib.ListN.{length-take, length-drop}
 use Rattle.integers.specs.Laws.Loops.{rest-whole}
 use Rattle.integers.specs.Laws.Sizes.{fits-abs, fits-mul, abs-mul-le}
 use Rattle.integers.specs.Vectors.{«at»}
-use Rattle.layers.specs.Digits.{Below, IsLayer, IsLayers, IsCode, cut, entry_of}
+use Rattle.layers.specs.Digits.{Below, IsLayer, IsCode, cut, entry_of}
 use Rattle.layers.proofs.Laws.Loops.{code-layer}
 use Rattle.layers.specs.Laws.Rows.{cut-layers}
 use Rattle.records.specs.Eight.Codes.{step_of}
@@ -22,220 +17,161 @@ use Rattle.lookups.specs.Laws.Sums.{power_sum, Summed, summed-none, summed-more,
 use Rattle.lookups.specs.Scoring.{pair_entry, block_pair_by}
 use Rattle.tables.specs.Tables.{part_size}
 use Rattle.lookups.proofs.pair_score.block_pair_by.Goals as goal
-use Rattle.lookups.proofs.pair_score.block_pair_by.Goals.{After-entry_number-from, After-entry_numbers-numbers, After-row_sum, After-step_of-2, At-loop-i, In-loop-i, Start}
-use Rattle.lookups.proofs.pair_score.block_pair_by.Invariants.{B}
-use Rattle.lookups.proofs.pair_score.block_pair_by.Invariants.{row_sum}
+use Rattle.lookups.proofs.pair_score.block_pair_by.Goals.{After-row_sum, After-step_of-2}
+use Rattle.lookups.proofs.pair_score.block_pair_by.Invariants.{B, row_sum}
 
-module _ (s : Start) where
-  abbrev m : ℕ
-  m = s.args.m
-
-  abbrev t : List ℤ
-  t = s.args.table.now
-
-  abbrev b : List ℕ
-  b = s.args.b.now
-
-  abbrev b' : List ℕ
-  b' = s.args.b2.now
-
+-- the sums of the rows
+module _ (t : List ℤ) (m : ℕ) (b b' : List ℕ) where
   abbrev all : List ℤ
   all = terms (row_sum t m b') m (drop 1 b)
 
   all-long : length all ≡ m
   all-long = terms-long (row_sum t m b') m (drop 1 b)
 
-  small : (i : ℕ) (z : ℤ) → Summed 2 B all i z → nat_abs z ≤ B * 2 ^ 4
-  small i z h = summed-most 2 B all i z h (omega arith) (2 ^ 4) (two-power (length all) (omega (arith, all-long, s.requires.0.few)))
+  small : m ≤ 4 → (i : ℕ) (z : ℤ) → Summed 2 B all i z → nat_abs z ≤ B * 2 ^ 4
+  small few i z h = summed-most 2 B all i z h (omega arith) (2 ^ 4) (two-power (length all) (omega (arith, all-long)))
 
-  layers : IsLayers 8 2 m (cut 8 m (drop 1 b'))
-  layers = cut-layers 8 2 m (drop 1 b') s.requires.3.code
-
--- the numbers of the second block's layers
-module _ (c : After-entry_numbers-numbers) where
-  abbrev s : Start
-  s = c.before.before.before.before
-
-  abbrev numbers : List ℕ
-  numbers = c.entry_numbers-numbers.result
-
-  numbers-are : take (m s) numbers ≡ map (entry_of 2) (cut 8 (m s) (drop 1 (b' s)))
-  numbers-are = c.entry_numbers-numbers.ensures.1 ∙ ap (λ (f : List ℕ). map (entry_of 2) (cut 8 (m s) f)) (rest-whole 1 (b' s))
-
--- layer j = i - 1 of the first
-module _ (c : In-loop-i) where
-  abbrev l : At-loop-i
-  l = c.before
-
-  abbrev o : Start
-  o = s l.before
-
-  abbrev i : ℕ
-  i = l.loop-i.i
-
-  abbrev z : ℤ
-  z = to_z w64 l.loop-i.z-bits
-
-  abbrev j : ℕ
-  j = i - 1
-
-  within : j < m o
-  within = omega (arith, l.loop-i.invariant.within, all-long o, c.loop-i-test.true)
-
-  ends : 8 * j + 1 + 8 ≤ length (b o)
-  ends = omega (arith, within, o.requires.2.long)
-
+-- layer j, as it is lent
+module _ (m : ℕ) (b : List ℕ) (code : IsCode 8 2 m (drop 1 b)) (j : ℕ) (within : j < m) where
   abbrev digits : List ℕ
-  digits = take 8 (drop (8 * j) (drop 1 (b o)))
+  digits = take 8 (drop (8 * j) (drop 1 b))
+
+  abbrev lent : List ℕ
+  lent = take (8 * j + 1 + 8 - (8 * j + 1)) (drop (8 * j + 1) b)
 
   layer : IsLayer 8 2 digits
-  layer = code-layer 8 2 (m o) (drop 1 (b o)) o.requires.2.code j within
+  layer = code-layer 8 2 m (drop 1 b) code j within
 
--- its row
-module _ (c : After-entry_number-from) where
-  abbrev k : In-loop-i
-  k = c.before.before
+  lent-layer : IsLayer 8 2 lent
+  lent-layer = subst (IsLayer 8 2) (sym (block-layer b j)) layer
+
+  number_below : (n : ℕ) → n ≡ entry_of 2 lent → n < 256
+  unfolding part_size
+  number_below n e = omega (arith, entry-within 2 lent lent-layer)
+
+-- the numbers of the second block's layers
+numbers-are : (m : ℕ) (b : List ℕ) (ns : List ℕ) → take m ns ≡ map (entry_of 2) (cut 8 m (take (length b - 1) (drop 1 b))) → take m ns ≡ map (entry_of 2) (cut 8 m (drop 1 b))
+numbers-are m b ns e = e ∙ ap (λ (f : List ℕ). map (entry_of 2) (cut 8 m f)) (rest-whole 1 b)
+
+-- the sum of a row
+module _ (c : After-row_sum) where
+  abbrev m : ℕ
+  m = c.args.m
+
+  abbrev t : List ℤ
+  t = c.args.table.now
+
+  abbrev b : List ℕ
+  b = c.args.b.now
+
+  abbrev b' : List ℕ
+  b' = c.args.b2.now
+
+  abbrev j : ℕ
+  j = c.loop-i.i - 1
 
   abbrev n : ℕ
   n = c.entry_number-from.result
 
-  n-is : n ≡ entry_of 2 (digits k)
-  n-is = c.entry_number-from.ensures ∙ ap (entry_of 2) (block-layer (b (o k)) (j k))
-
-  n_within : n < 256
-  unfolding part_size
-  n_within = omega (arith, n-is, entry-within 2 (digits k) (layer k))
-
-  room : 256 * n + 256 ≤ length (t (o k))
-  room = omega (arith, n_within, (o k).requires.4)
-
-  whole : 256 * n + 256 - 256 * n ≡ 256
-  whole = omega arith
-
--- the sum of the row
-module _ (c : After-row_sum) where
-  abbrev e : After-entry_number-from
-  e = c.before.before.before
-
-  abbrev g : In-loop-i
-  g = k e
-
-  abbrev a : Start
-  a = o g
-
   abbrev x : ℤ
   x = c.row_sum.result
+
+  abbrev z : ℤ
+  z = to_z w64 c.loop-i.z-bits
+
+  within : j < m
+  within = omega (arith, c.loop-i.invariant.0, c.loop-i-test.true)
+
+  few : m ≤ 4
+  few = c.requires.0.few
 
   x_fits : SFits w64 x
   x_fits = record { sfits = c.row_sum.type_inv }
 
-  x-is : x ≡ row_sum (t a) (m a) (b' a) (digits g)
-  x-is =
+  x-is : x ≡ row_sum t m b' (digits m b c.requires.2.code j within)
+  x-is = let d : List ℕ = digits m b c.requires.2.code j within in let whole : 256 * n + 256 - 256 * n ≡ 256 = omega arith in
       c.row_sum.ensures.value
-      ∙ ap₂ (λ (w : ℕ) (ns : List ℕ). power_sum 2 (map («at» (take w (drop (256 * n e) (t a)))) ns)) (whole e) (numbers-are (l g).before)
-      ∙ ap (λ (n : ℕ). power_sum 2 (map («at» (take 256 (drop (256 * n) (t a)))) (map (entry_of 2) (cut 8 (m a) (drop 1 (b' a)))))) (n-is e)
-      ∙ row-sum-is (t a) (digits g) (m a) (cut 8 (m a) (drop 1 (b' a))) (layers a)
+      ∙ ap₂ (λ (w : ℕ) (ns : List ℕ). power_sum 2 (map («at» (take w (drop (256 * n) t))) ns)) whole (numbers-are m b' c.entry_numbers-numbers.result c.entry_numbers-numbers.ensures.1)
+      ∙ ap (λ (n : ℕ). power_sum 2 (map («at» (take 256 (drop (256 * n) t))) (map (entry_of 2) (cut 8 m (drop 1 b'))))) (c.entry_number-from.ensures ∙ ap (entry_of 2) (block-layer b j))
+      ∙ row-sum-is t d m (cut 8 m (drop 1 b')) (cut-layers 8 2 m (drop 1 b') c.requires.3.code)
 
-  above-fits : SFits w64 (pos 2 *ℤ z g)
-  above-fits = fits-mul (pos 2) (z g) 2 (B * 2 ^ 4) (omega arith) (small a (i g) (z g) (l g).loop-i.invariant) (omega arith)
+  above-fits : SFits w64 (pos 2 *ℤ z)
+  above-fits = fits-mul (pos 2) z 2 (B * 2 ^ 4) (omega arith) (small t m b b' few c.loop-i.i z c.loop-i.invariant.1) (omega arith)
 
-  more : Summed 2 B (all a) (j g) (x +ℤ pos 2 *ℤ z g)
-  more = summed-more 2 B (all a) (i g) (z g) (l g).loop-i.invariant (omega arith) g.loop-i-test.true x
-      (x-is ∙ sym (terms-at (row_sum (t a) (m a) (b' a)) (m a) (drop 1 (b a)) (j g) (within g))) c.row_sum.ensures.small
+  more : Summed 2 B (all t m b b') j (x +ℤ pos 2 *ℤ z)
+  more = summed-more 2 B (all t m b b') c.loop-i.i z c.loop-i.invariant.1 (omega arith) c.loop-i-test.true x
+      (x-is ∙ sym (terms-at (row_sum t m b') m (drop 1 b) j within)) c.row_sum.ensures.small
 
-  more-fits : SFits w64 (x +ℤ pos 2 *ℤ z g)
-  more-fits = fits-abs _ (omega (arith, small a (j g) (x +ℤ pos 2 *ℤ z g) more))
+  more-fits : SFits w64 (x +ℤ pos 2 *ℤ z)
+  more-fits = fits-abs _ (omega (arith, small t m b b' few j (x +ℤ pos 2 *ℤ z) more))
 
 -- the steps, and all of it
 module _ (c : After-step_of-2) where
-  abbrev h : At-loop-i
-  h = c.before.before.before
-
-  abbrev r : Start
-  r = s h.before
-
   abbrev p : ℤ
-  p = c.before.step_of_lem.result
+  p = c.step_of.result
 
   abbrev p' : ℤ
   p' = c.step_of-2.result
 
   abbrev y : ℤ
-  y = to_z w64 h.loop-i.z-bits
+  y = to_z w64 c.loop-i.z-bits
+
+  abbrev sums : List ℤ
+  sums = all c.args.table.now c.args.m c.args.b.now c.args.b2.now
 
   p-fits : SFits w64 p
-  p-fits = record { sfits = c.before.step_of_lem.type_inv }
+  p-fits = record { sfits = c.step_of.type_inv }
 
   p'-fits : SFits w64 p'
   p'-fits = record { sfits = c.step_of-2.type_inv }
 
-  p-small : nat_abs p ≤ 1024
-  p-small = rw c.before.step_of_lem.ensures (step_small (pos 2) (m r) r.args.steps.now r.requires.0 (b r) r.requires.2)
-
-  p'-small : nat_abs p' ≤ 1024
-  p'-small = rw c.step_of-2.ensures (step_small (pos 2) (m r) r.args.steps2.now r.requires.1 (b' r) r.requires.3)
-
   both_small : nat_abs (p *ℤ p') ≤ 1024 * 1024
-  both_small = abs-mul-le p p' p-small p'-small
+  both_small =
+      let k : nat_abs p ≤ 1024 = rw c.step_of.ensures (step_small (pos 2) c.args.m c.args.steps.now c.requires.0 c.args.b.now c.requires.2) in
+      let k' : nat_abs p' ≤ 1024 = rw c.step_of-2.ensures (step_small (pos 2) c.args.m c.args.steps2.now c.requires.1 c.args.b2.now c.requires.3) in
+      abs-mul-le p p' k k'
 
   both-fits : SFits w64 (p *ℤ p')
   both-fits = fits-abs _ (omega (arith, both_small))
 
   value-small : nat_abs (p *ℤ p' *ℤ y) ≤ 2 ^ 35
-  value-small = omega (arith, abs-mul-le (p *ℤ p') y both_small (small r h.loop-i.i y h.loop-i.invariant))
+  value-small = omega (arith, abs-mul-le (p *ℤ p') y both_small (small c.args.table.now c.args.m c.args.b.now c.args.b2.now c.requires.0.few c.loop-i.i y c.loop-i.invariant.1))
 
   value-fits : SFits w64 (p *ℤ p' *ℤ y)
   value-fits = fits-abs _ (omega (arith, value-small))
 
-  value-is : p *ℤ p' *ℤ y ≡ block_pair_by (m r) r.args.steps.now r.args.steps2.now (t r) (b r) (b' r)
+  value-is : p *ℤ p' *ℤ y ≡ block_pair_by c.args.m c.args.steps.now c.args.steps2.now c.args.table.now c.args.b.now c.args.b2.now
   unfolding block_pair_by
-  value-is = let none : h.loop-i.i ≡ 0 = omega (arith, c.before.before.loop-i-test.false) in
-      ap₂ (λ (u v : ℤ). u *ℤ v *ℤ y) c.before.step_of_lem.ensures c.step_of-2.ensures
-      ∙ ap (λ (z : ℤ). step_of r.args.steps.now (b r) *ℤ step_of r.args.steps2.now (b' r) *ℤ z)
-      (summed-all 2 B (all r) h.loop-i.i y h.loop-i.invariant none ∙ sym (pair-power 2 (pair_entry (t r)) (cut 8 (m r) (drop 1 (b' r))) (cut 8 (m r) (drop 1 (b r)))))
-
-pub slice_bounds-entry_numbers-count : goal.slice_bounds-entry_numbers-count
-slice_bounds-entry_numbers-count c = omega (arith, c.before.before.requires.3.long)
-
-pub slice_bounds-entry_numbers-start : goal.slice_bounds-entry_numbers-start
-slice_bounds-entry_numbers-start c = omega (arith, c.before.before.requires.3.long)
+  value-is = let none : c.loop-i.i ≡ 0 = omega (arith, c.loop-i-test.false) in let b = c.args.b.now in let b' = c.args.b2.now in
+      ap₂ (λ (u v : ℤ). u *ℤ v *ℤ y) c.step_of.ensures c.step_of-2.ensures
+      ∙ ap (λ (z : ℤ). step_of c.args.steps.now b *ℤ step_of c.args.steps2.now b' *ℤ z)
+      (summed-all 2 B sums c.loop-i.i y c.loop-i.invariant.1 none ∙ sym (pair-power 2 (pair_entry c.args.table.now) (cut 8 c.args.m (drop 1 b')) (cut 8 c.args.m (drop 1 b))))
 
 pub entry_numbers-numbers-requires : goal.entry_numbers-numbers-requires
-entry_numbers-numbers-requires c = let s = c.before.before.before in (s.requires.1.few, subst (IsCode 8 2 (m s)) (sym (rest-whole 1 (b' s))) s.requires.3.code)
+entry_numbers-numbers-requires c = (c.requires.0.few, subst (IsCode 8 2 c.args.m) (sym (rest-whole 1 c.args.b2.now)) c.requires.3.code)
 
 pub loop-i-init : goal.loop-i-init
-loop-i-init c = summed-none 2 B (all (s c)) (m (s c)) (all-long (s c))
-
-pub overflow_mul-at : goal.overflow_mul-at
-overflow_mul-at c = omega (arith, ends c)
-
-pub overflow_add-at : goal.overflow_add-at
-overflow_add-at c = omega (arith, ends c)
-
-pub overflow_add-end : goal.overflow_add-end
-overflow_add-end c = omega (arith, ends c)
-
-pub slice_bounds-entry_number-end : goal.slice_bounds-entry_number-end
-slice_bounds-entry_number-end c = omega (arith, ends c)
+loop-i-init c = let g = row_sum c.args.table.now c.args.m c.args.b2.now in
+    (omega arith, summed-none 2 B (terms g c.args.m (drop 1 c.args.b.now)) c.args.m (terms-long g c.args.m (drop 1 c.args.b.now)))
 
 pub entry_number-from-requires : goal.entry_number-from-requires
-entry_number-from-requires c = let k = c.before in (subst (IsLayer 8 2) (sym (block-layer (b (o k)) (j k))) (layer k), omega arith)
+entry_number-from-requires c = (lent-layer c.args.m c.args.b.now c.requires.2.code (c.loop-i.i - 1) (omega arith), omega arith)
 
 pub overflow_mul-from : goal.overflow_mul-from
-overflow_mul-from c = omega (arith, n_within c)
+overflow_mul-from c = omega (arith, number_below c.args.m c.args.b.now c.requires.2.code (c.loop-i.i - 1) (omega arith) c.entry_number-from.result c.entry_number-from.ensures)
 
 pub overflow_add-to : goal.overflow_add-to
-overflow_add-to c = omega (arith, n_within c)
+overflow_add-to c = omega (arith, number_below c.args.m c.args.b.now c.requires.2.code (c.loop-i.i - 1) (omega arith) c.entry_number-from.result c.entry_number-from.ensures)
 
 pub slice_bounds-row_sum-end : goal.slice_bounds-row_sum-end
-slice_bounds-row_sum-end c = room c
+slice_bounds-row_sum-end c = omega (arith, number_below c.args.m c.args.b.now c.requires.2.code (c.loop-i.i - 1) (omega arith) c.entry_number-from.result c.entry_number-from.ensures)
 
 pub row_sum-requires : goal.row_sum-requires
-row_sum-requires c = let e = c.before.before in let a = o (k e) in let f = (l (k e)).before in (
-  simp (length-take, length-drop) (omega (arith, room e, whole e)),
-  a.requires.0.few,
-  f.entry_numbers-numbers.ensures.0,
-  subst (Below 256) (sym (numbers-are f)) (entries_below (m a) (cut 8 (m a) (drop 1 (b' a))) (layers a)),
+row_sum-requires c = let m : ℕ = c.args.m in let n : ℕ = c.entry_number-from.result in let whole : 256 * n + 256 - 256 * n ≡ 256 = omega arith in (
+  simp (length-take, length-drop) (omega (arith, whole, number_below m c.args.b.now c.requires.2.code (c.loop-i.i - 1) (omega arith) n c.entry_number-from.ensures)),
+  c.requires.0.few,
+  c.entry_numbers-numbers.ensures.0,
+  subst (Below 256) (sym (numbers-are m c.args.b2.now c.entry_numbers-numbers.result c.entry_numbers-numbers.ensures.1)) (entries_below m (cut 8 m (drop 1 c.args.b2.now)) (cut-layers 8 2 m (drop 1 c.args.b2.now) c.requires.3.code)),
 )
 
 pub overflow_mul-z : goal.overflow_mul-z
@@ -245,16 +181,7 @@ pub overflow_add-z : goal.overflow_add-z
 overflow_add-z c = simp (to_z-of_z, x_fits c, above-fits c) (more-fits c)
 
 pub loop-i-preserved : goal.loop-i-preserved
-loop-i-preserved c = simp (to_z-of_z, x_fits c, above-fits c, more-fits c) (more c)
-
-pub step_of-requires : goal.step_of-requires
-step_of-requires c = let r = s c.before.before in (omega (arith, r.requires.2.long), r.requires.2.first)
-
-pub step_of-requires-2 : goal.step_of-requires-2
-step_of-requires-2 c = let r = s c.before.before.before in (omega (arith, r.requires.3.long), r.requires.3.first)
-
-pub overflow_mul-result : goal.overflow_mul-result
-overflow_mul-result c = simp (to_z-of_z, p-fits c, p'-fits c) (both-fits c)
+loop-i-preserved c = simp (to_z-of_z, x_fits c, above-fits c, more-fits c) (omega arith, more c)
 
 pub overflow_mul-result-2 : goal.overflow_mul-result-2
 overflow_mul-result-2 c = simp (to_z-of_z, p-fits c, p'-fits c, both-fits c) (value-fits c)

@@ -1,12 +1,9 @@
 -- `entry_numbers` goes up: after i turns the numbers of the first i layers stand in front.
-use mathlib.Core.Path.{◌≡◌, refl, sym, ◌∙◌, ap, subst}
-use mathlib.Core.List.{List, map}
-use Prim.Native.Nat.{ℕ, ◌+◌, ◌*◌, ◌-◌, ◌≤◌}
-use native.Mathlib.Omega.{arith}
-use lib.ListN.{length, take, drop, set, length-set}
-use Rattle.layers.specs.Digits.{IsLayer, cut, entry_of}
-use Rattle.layers.proofs.Laws.Loops.{code-layer}
-use Rattle.lookups.specs.Laws.Rows.{entries-more}
+use mathlib.Core.Path.{◌≡◌}
+use mathlib.Core.List.{map}
+use Prim.Native.Nat.{◌-◌, ◌≤◌}
+use lib.ListN.{length, take}
+use Rattle.layers.specs.Digits.{cut, entry_of}
 use Rattle.lookups.proofs.pair_score.entry_numbers.Given as goal
 
 abbrev pub invariant-loop-i : goal.invariant-loop-i

@@ -1,7 +1,7 @@
 -- `row_sum` goes from the last entry down: it holds the sum of those from i on, which stays small whatever they are.
 use mathlib.Core.Path.{◌≡◌, sym, ◌∙◌, ap}
-use mathlib.Core.List.{List, map}
-use Prim.Native.Nat.{ℕ, ◌+◌, ◌*◌, ◌-◌, ◌^◌, ◌<◌, ◌≤◌}
+use mathlib.Core.List.{List}
+use Prim.Native.Nat.{ℕ, ◌*◌, ◌-◌, ◌^◌, ◌<◌, ◌≤◌}
 use native.Mathlib.Omega.{arith}
 use lib.IntN.{ℤ, pos, nat_abs, ◌+ℤ◌, ◌*ℤ◌}
 use lib.ListN.{length, get_or, take, length-map, length-take}
@@ -68,7 +68,7 @@ module _ (l : In-loop-i) where
 
 module _ (c : After-z-in-loop-i-1) where
   abbrev l : In-loop-i
-  l = c.before.before
+  l = c.before.before.before.before
 
   abbrev x : ℤ
   x = «at» (row (s l)) (n l)
@@ -96,10 +96,10 @@ pub offset_bounds-numbers-i : goal.offset_bounds-numbers-i
 offset_bounds-numbers-i c = omega (arith, within c, (s c).requires.1)
 
 pub bounds-numbers-i : goal.bounds-numbers-i
-bounds-numbers-i c = omega (arith, within c, (s c).requires.1, (s c).requires.2)
+bounds-numbers-i c = omega (arith, within c.before.before, (s c.before.before).requires.1, (s c.before.before).requires.2)
 
 pub bounds-row-numbers : goal.bounds-row-numbers
-bounds-row-numbers c = omega (arith, n_within c.before, (s c.before).requires.0)
+bounds-row-numbers c = omega (arith, n_within c.before.before.before, (s c.before.before.before).requires.0)
 
 pub overflow_cast-z : goal.overflow_cast-z
 overflow_cast-z c = simp (to_z-of_z, x_fits c) (x-wide c)

@@ -1,19 +1,10 @@
 -- `row_sum` goes from the last entry down: it holds the sum of those from i on, which stays small whatever they are.
-use mathlib.Core.Path.{◌≡◌, sym, ◌∙◌, ap}
 use mathlib.Core.List.{List, map}
-use Prim.Native.Nat.{ℕ, ◌+◌, ◌*◌, ◌-◌, ◌^◌, ◌<◌, ◌≤◌}
-use native.Mathlib.Omega.{arith}
-use lib.IntN.{ℤ, pos, nat_abs, ◌+ℤ◌, ◌*ℤ◌}
-use lib.ListN.{length, get_or, take, length-map, length-take}
-use lib.Seq.{get_or-take}
-use mir.Syntax.{w8, w64}
-use mir.Val.{SFits, to_z}
-use mir.Facts.{to_z-of_z, sfits_widen}
-use Rattle.integers.specs.Laws.Loops.{map_at}
-use Rattle.integers.specs.Laws.Sizes.{fits-abs, fits-mul}
+use Prim.Native.Nat.{ℕ, ◌^◌}
+use lib.IntN.{ℤ}
+use lib.ListN.{take}
 use Rattle.integers.specs.Vectors.{«at»}
-use Rattle.layers.specs.Laws.Rows.{below_at}
-use Rattle.lookups.specs.Laws.Sums.{Summed, summed-none, summed-more, summed-most, summed-all, two-power, read_small}
+use Rattle.lookups.specs.Laws.Sums.{Summed}
 use Rattle.lookups.proofs.pair_score.row_sum.Given as goal
 
 -- the entries in m places

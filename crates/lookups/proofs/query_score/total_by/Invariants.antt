@@ -1,27 +1,15 @@
 -- `total_by` adds block after block: after i turns z is the total of the first i, each of which is small whatever its part holds.
-use mathlib.Core.Path.{◌≡◌, refl, sym, ◌∙◌, ap, ap₂, subst}
-use mathlib.Core.List.{List}
-use Prim.Native.Nat.{ℕ, ◌+◌, ◌*◌, ◌-◌, ◌^◌, ◌≤◌}
-use native.Mathlib.Nat.{mul-le-mul}
-use native.Mathlib.Omega.{arith}
-use lib.IntN.{ℤ, nat_abs, ◌+ℤ◌}
-use lib.ListN.{length, take, drop, length-take, length-drop}
-use mir.Syntax.{w64}
-use mir.Val.{SFits, to_z}
-use mir.Facts.{to_z-of_z}
-use Rattle.integers.specs.Laws.Sizes.{fits-abs, abs-add}
+use Rattle.std.proofs.Common.{◌≡◌, ◌*◌, ◌-◌, ◌^◌, ◌≤◌, nat_abs}
 use Rattle.layers.specs.Digits.{cut}
-use Rattle.records.specs.Eight.Codes.{IsBlock, block_size}
-use Rattle.records.specs.Laws.Parts.{part-ends}
-use Rattle.scores.specs.Laws.Totals.{parts_more}
+use Rattle.records.specs.Eight.Codes.{block_size}
 use Rattle.scores.specs.Scores.{total}
-use Rattle.tables.specs.Laws.Entries.{part-most}
 use Rattle.lookups.specs.Scoring.{block_query_by}
 use Rattle.tables.specs.Tables.{part_size}
 use Rattle.lookups.proofs.query_score.total_by.Given as goal
 
 abbrev pub invariant-loop-i : goal.invariant-loop-i
-invariant-loop-i l = (l.i ≤ l.k) × (l.z ≡ total (block_query_by (nat_abs l.q) l.m l.steps) (cut (part_size (nat_abs l.q)) l.i l.table) (cut (block_size l.m) l.i l.body)) × (nat_abs l.z ≤ l.i * 2 ^ 53)
+invariant-loop-i l =
+    (l.i ≤ l.k) × (l.z ≡ total (block_query_by (nat_abs l.q) l.m l.steps) (cut (part_size (nat_abs l.q)) l.i l.table) (cut (block_size l.m) l.i l.body)) × (nat_abs l.z ≤ l.i * 2 ^ 53)
 
 abbrev pub decreases-loop-i : goal.decreases-loop-i
 decreases-loop-i l = l.k - l.i

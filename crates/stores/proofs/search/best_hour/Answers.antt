@@ -1,96 +1,58 @@
 -- `best_hour` answers what is refused of the hour, and else what the core answers on the units that were taken.
-use borrow.Author.Rules.{rules}
-use mathlib.Core.Path.{◌≡◌, refl, sym, ◌∙◌, ap, subst}
-use mathlib.Core.List.{List, ◌++◌}
-use Prim.Native.Nat.{ℕ, ◌-◌, ◌/◌, ◌≤◌}
-use native.Mathlib.Omega.{arith}
-use lib.IntN.{ℤ, nat_abs}
-use lib.ListN.{length, take, drop, length-append}
+use Rattle.std.proofs.Common.{◌≡◌, refl, sym, ◌∙◌, ap, subst, List, ◌++◌, ℕ, ◌-◌, ◌/◌, ◌≤◌, ℤ, nat_abs, length, take, drop, arith, length-append}
 use lib.Seq.{take_at}
 use Rattle.integers.specs.Vectors.{zeros}
+use Rattle.readings.specs.Words.{word_at}
 use Rattle.records.proofs.Eight.Hours.{fvecs-sound, fvecs-count}
-use Rattle.records.specs.Eight.Vectors.{Hour, fvecs_hour, units_taken, UnitsTaken}
+use Rattle.records.specs.Eight.Vectors.{fvecs_hour, units_taken, UnitsTaken}
+use Rattle.refusals.specs.declared.settings.Settings.{Settings}
 use Rattle.refusals.specs.declared.Verdict.TheVariants.{Accepted}
-use Rattle.scores.specs.Hours.{check_hour}
+use Rattle.scores.specs.Hours.{check_hour, hour_room}
 use Rattle.scores.specs.Eight.Asked.{HourTaken, hour-taken, hour-framed, room-taken}
 use Rattle.stores.specs.Laws.Search.{best_hour-refused, best_hour-is}
 use Rattle.stores.specs.Stores.{check_store, best_in, found}
 use Rattle.stores.proofs.search.best_hour.Goals as goal
-use Rattle.stores.proofs.search.best_hour.Goals.{After-take_fvecs_hour, After-word_at-n, In-Accepted, Start}
 
 -- where the hour is accepted
-module _ (c : In-Accepted) where
-  abbrev r : After-take_fvecs_hour
-  r = c.before.before.before
-
-  abbrev s : Start
-  s = r.before.before.before.before
-
-  abbrev steps : List ℤ
-  steps = s.args.steps.now
-
-  abbrev b : List ℕ
-  b = s.args.query.now
-
-  abbrev h : Hour
-  h = fvecs_hour b
-
+module _ (s : Settings) (steps : List ℤ) (b : List ℕ) (e : Accepted ≡ check_hour s steps (fvecs_hour b)) where
   abbrev X : List ℤ
-  X = units_taken h.readings
+  X = units_taken (fvecs_hour b).readings
 
-  accepted : check_hour s.args.s steps h ≡ Accepted
-  accepted = sym r.take_fvecs_hour.ensures.answer ∙ c.enum_told-1.given.1
+  taken : HourTaken s steps (fvecs_hour b)
+  taken = hour-taken s steps (fvecs_hour b) (fvecs-sound b) (sym e)
 
-  taken : HourTaken s.args.s steps h
-  taken = hour-taken s.args.s steps h (fvecs-sound b) accepted
+  -- its units stand at the front
+  module _ (room : List ℤ) (n : ℕ) (f : room ≡ hour_room s steps (fvecs_hour b) (zeros 512)) (g : n ≡ word_at b 0) where
+    n-is : length X ≡ n
+    n-is = taken.long ∙ fvecs-count b ∙ sym g
 
--- its units stand at the front
-module _ (c : After-word_at-n) where
-  abbrev t : In-Accepted
-  t = c.before
+    room-is : room ≡ X ++ drop (length X) (zeros 512)
+    room-is = f ∙ room-taken s steps (fvecs_hour b) (zeros 512) (sym e)
 
-  abbrev n : ℕ
-  n = c.word_at-n.result
+    enough : n ≤ length room
+    enough = omega (arith, n-is, simp length-append at (ap length room-is))
 
-  abbrev room : List ℤ
-  room = (r t).take_fvecs_hour.new.x
-
-  n-is : length (X t) ≡ n
-  n-is = (taken t).long ∙ fvecs-count (b t) ∙ sym c.word_at-n.ensures
-
-  room-is : room ≡ X t ++ drop (length (X t)) (zeros 512)
-  room-is = (r t).take_fvecs_hour.ensures.room ∙ room-taken (s t).args.s (steps t) (h t) (zeros 512) (accepted t)
-
-  enough : n ≤ length room
-  enough = omega (arith, n-is, simp length-append at (ap length room-is))
-
-  x-is : take (n - 0) room ≡ X t
-  x-is = let z : n - 0 ≡ n = omega arith in ap (λ (k : ℕ). take k room) z ∙ ap (take n) room-is ∙ take_at (X t) _ n n-is
-
-pub slice_bounds-take_fvecs_hour-end : goal.slice_bounds-take_fvecs_hour-end
-slice_bounds-take_fvecs_hour-end c = refl
-
-pub enum_known-r : goal.enum_known-r
-enum_known-r c = c.in-Refused.keys1
-
-pub enum_told-1 : goal.enum_told-1
-enum_told-1 c = c.in-Accepted.keys2
+    x-is : take (n - 0) room ≡ X
+    x-is = let z : n - 0 ≡ n = omega arith in ap (λ (k : ℕ). take k room) z ∙ ap (take n) room-is ∙ take_at X _ n n-is
 
 pub word_at-n-requires : goal.word_at-n-requires
-word_at-n-requires c = (hour-framed (s c).args.s (steps c) (b c) (accepted c)).there
+word_at-n-requires c = (hour-framed c.args.s c.args.steps.now c.args.query.now (sym c.in-Accepted.ensures.answer)).there
 
 pub slice_bounds-search_units-end : goal.slice_bounds-search_units-end
-slice_bounds-search_units-end c = enough c.before
+slice_bounds-search_units-end c = let a = c.args in enough a.s a.steps.now a.query.now c.in-Accepted.ensures.answer c.take_fvecs_hour.new.x c.word_at-n.result c.take_fvecs_hour.ensures.room c.word_at-n.ensures
 
 pub search_units-requires : goal.search_units-requires
-search_units-requires c = let w = c.before.before in ((taken (t w)).taken, subst UnitsTaken (sym (x-is w)) (taken (t w)).units)
+search_units-requires c = let a = c.args in let t = taken a.s a.steps.now a.query.now c.in-Accepted.ensures.answer in
+    (t.taken, subst UnitsTaken (sym (x-is a.s a.steps.now a.query.now c.in-Accepted.ensures.answer c.take_fvecs_hour.new.x c.word_at-n.result c.take_fvecs_hour.ensures.room c.word_at-n.ensures)) t.units)
 
 pub returns-in-Refused : goal.returns-in-Refused
-returns-in-Refused c = let a = c.before.before.before.before.before in let v = a.before.before.before.before.args in
-    c.no_hour.ensures ∙ best_hour-refused v.s v.steps.now (fvecs_hour v.query.now) v.store.now _ (sym a.take_fvecs_hour.ensures.answer ∙ c.before.before.r-1.given.1)
+returns-in-Refused c = let a = c.args in record { answer = c.no_hour.ensures ∙ best_hour-refused a.s a.steps.now (fvecs_hour a.query.now) a.store.now _ (sym c.in-Refused.ensures.answer) }
 
 pub returns-in-Accepted : goal.returns-in-Accepted
-returns-in-Accepted c = let w = c.before.before.before in let a = t w in let v = (s a).args in
-    c.search_units.ensures
-    ∙ ap (λ (x : List ℤ). let K = length x / 8 in found (check_store (length (steps a)) (nat_abs v.s.q) (nat_abs v.s.m) K v.store.now) (best_in (nat_abs v.s.q) (nat_abs v.s.m) (steps a) x K v.store.now)) (x-is w)
-    ∙ best_hour-is v.s (steps a) (h a) v.store.now (accepted a) (X a) refl (taken a).long
+returns-in-Accepted c = let a = c.args in let e = c.in-Accepted.ensures.answer in record {
+  answer =
+      c.search_units.ensures
+      ∙ ap (λ (x : List ℤ). let K = length x / 8 in found (check_store (length a.steps.now) (nat_abs a.s.q) (nat_abs a.s.m) K a.store.now) (best_in (nat_abs a.s.q) (nat_abs a.s.m) a.steps.now x K a.store.now))
+      (x-is a.s a.steps.now a.query.now e c.take_fvecs_hour.new.x c.word_at-n.result c.take_fvecs_hour.ensures.room c.word_at-n.ensures)
+      ∙ best_hour-is a.s a.steps.now (fvecs_hour a.query.now) a.store.now (sym e) (X a.s a.steps.now a.query.now e) refl (taken a.s a.steps.now a.query.now e).long;
+}
