@@ -2,5 +2,3 @@
 pub mod Entries
 pub mod Groups
 pub mod Sizes
-pub mod Filling
-pub mod Theorems

@@ -21,7 +21,7 @@ use Rattle.refusals.specs.Verdicts.{unless, first_refusal}
 use Rattle.scores.specs.Eight.Pair.{PairTaken, pair-taken}
 use Rattle.scores.specs.Eight.Scores.{check_code, check_pair, check_query}
 use Rattle.tables.specs.Filling.{check_table, check_entries}
-use Rattle.tables.specs.Laws.Filling.{table_taken, entries-taken}
+use Rattle.tables.proofs.Laws.Filling.{table_taken, entries-taken}
 use Rattle.lookups.specs.Scoring.{check_pair_by, record_by, check_query_by}
 use Rattle.tables.specs.Tables.{pair_most, query_most, pair_size, part_size}
 

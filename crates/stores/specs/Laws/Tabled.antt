@@ -18,7 +18,7 @@ use Rattle.refusals.specs.Verdicts.{first_refusal}
 use Rattle.scores.specs.Hours.{check_hour}
 use Rattle.scores.specs.Eight.Asked.{hour-taken}
 use Rattle.tables.specs.Filling.{check_table, check_entries, lent_asked}
-use Rattle.tables.specs.Laws.Filling.{table_taken, entries-taken}
+use Rattle.tables.proofs.Laws.Filling.{table_taken, entries-taken}
 use Rattle.tables.specs.Tables.{query_most, part_size, query_table}
 use Rattle.stores.specs.Stores.{check_store, best_of, best_in, found}
 use Rattle.stores.specs.Tabled.{table_asked, check_best_by, best_hour_by, best_hour_table}

@@ -183,6 +183,9 @@ overflow_add-z c = simp (to_z-of_z, x_fits c, above-fits c) (more-fits c)
 pub loop-i-preserved : goal.loop-i-preserved
 loop-i-preserved c = simp (to_z-of_z, x_fits c, above-fits c, more-fits c) (omega arith, more c)
 
+pub overflow_mul-result : goal.overflow_mul-result
+overflow_mul-result c = simp (to_z-of_z, p-fits c, p'-fits c) (both-fits c)
+
 pub overflow_mul-result-2 : goal.overflow_mul-result-2
 overflow_mul-result-2 c = simp (to_z-of_z, p-fits c, p'-fits c, both-fits c) (value-fits c)
 

@@ -9,7 +9,7 @@ use Rattle.refusals.specs.Settings.{check_settings}
 use Rattle.refusals.specs.Steps.{check_steps}
 use Rattle.refusals.specs.Verdicts.{first_refusal}
 use Rattle.tables.specs.Filling.{check_table}
-use Rattle.tables.specs.Laws.Filling.{table_taken}
+use Rattle.tables.proofs.Laws.Filling.{table_taken}
 use Rattle.tables.specs.Tables.{query_most}
 use Rattle.lookups.specs.Laws.Scoring.{query-by-is}
 use Rattle.lookups.specs.Scoring.{query_total_by, record_by, query_score_by}

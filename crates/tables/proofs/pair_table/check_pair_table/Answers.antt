@@ -1,7 +1,7 @@
 -- `check_pair_table` is the settings' check, then those of the table.
 use Rattle.std.proofs.Common.{sym, ◌∙◌}
 use Rattle.coding.specs.Laws.Asked.{checked-allowed}
-use Rattle.tables.specs.Laws.Filling.{pair-table-is}
+use Rattle.tables.proofs.Laws.Filling.{pair-table-is}
 use Rattle.tables.proofs.pair_table.check_pair_table.Goals as goal
 
 pub check_lent-requires : goal.check_lent-requires

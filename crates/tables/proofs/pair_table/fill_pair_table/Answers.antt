@@ -4,7 +4,7 @@ use Rattle.refusals.specs.declared.Verdict.{Verdict}
 use Rattle.refusals.specs.Answers.{valued, written}
 use Rattle.tables.specs.Filling.{pair_filled, pair_table_room}
 use Rattle.tables.specs.Laws.Entries.{pair_table-long}
-use Rattle.tables.specs.Laws.Filling.{pair-table-taken}
+use Rattle.tables.proofs.Laws.Filling.{pair-table-taken}
 use Rattle.tables.specs.Tables.{pair_table}
 use Rattle.tables.proofs.pair_table.fill_pair_table.Goals as goal
 

@@ -2,7 +2,7 @@
 use Rattle.std.proofs.Common.{sym, ◌∙◌}
 use Rattle.records.specs.Eight.Vectors.{fvecs_hour}
 use Rattle.refusals.specs.Laws.Verdicts.{first-last}
-use Rattle.tables.specs.Laws.Filling.{q-taken, asked_is}
+use Rattle.tables.proofs.Laws.Filling.{q-taken, asked_is}
 use Rattle.tables.proofs.query_table.check_fvecs_query.Goals as goal
 
 pub check_fvecs_lent-requires : goal.check_fvecs_lent-requires

@@ -7,7 +7,7 @@ use Rattle.refusals.specs.Laws.Verdicts.{first-last, first_group}
 use Rattle.refusals.specs.Settings.{check_settings}
 use Rattle.refusals.specs.Verdicts.{first_refusal}
 use Rattle.tables.specs.Filling.{check_table, check_query_table, lent_asked}
-use Rattle.tables.specs.Laws.Filling.{q-taken, asked_is, query-table-is}
+use Rattle.tables.proofs.Laws.Filling.{q-taken, asked_is, query-table-is}
 use Rattle.tables.specs.Tables.{query_most}
 use Rattle.tables.proofs.query_table.check_units_query.Goals as goal
 

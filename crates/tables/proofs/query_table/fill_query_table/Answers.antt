@@ -15,7 +15,7 @@ use Rattle.refusals.specs.declared.Verdict.TheVariants.{Accepted}
 use Rattle.refusals.specs.Answers.{valued, written}
 use Rattle.refusals.specs.Verdicts.{first_refusal}
 use Rattle.tables.specs.Filling.{query_table_asked, check_query_table}
-use Rattle.tables.specs.Laws.Filling.{query-table-is, QueryTableTaken, query-table-taken, asked-framed, filled-refused, filled-accepted}
+use Rattle.tables.proofs.Laws.Filling.{query-table-is, QueryTableTaken, query-table-taken, asked-framed, filled-refused, filled-accepted}
 use Rattle.tables.specs.Tables.{part_size, query_table}
 use Rattle.tables.proofs.query_table.fill_query_table.Goals as goal
 

@@ -13,7 +13,7 @@ use Rattle.refusals.specs.declared.settings.Settings.{Settings}
 use Rattle.refusals.specs.declared.Verdict.TheVariants.{Accepted}
 use Rattle.refusals.specs.Answers.{valued, written}
 use Rattle.tables.specs.Filling.{check_query_table}
-use Rattle.tables.specs.Laws.Filling.{QueryTableTaken, query-table-taken, filled-refused, filled-accepted}
+use Rattle.tables.proofs.Laws.Filling.{QueryTableTaken, query-table-taken, filled-refused, filled-accepted}
 use Rattle.tables.specs.Tables.{part_size, query_table}
 use Rattle.tables.proofs.query_table.fill_query_table_units.Goals as goal
 

@@ -22,7 +22,7 @@ use Rattle.refusals.specs.Laws.Verdicts.{first-last}
 use Rattle.scores.specs.Scores.{inner}
 use Rattle.tables.specs.Filling.{check_pair_table, pair_filled, pair_table_room, query_table_asked, check_query_table, query_filled, query_table_room}
 use Rattle.tables.specs.Laws.Entries.{pair_table-long, pair_table-at, query_table-long, query_table-at}
-use Rattle.tables.specs.Laws.Filling.{query-table-is, QueryTableTaken, query-table-taken}
+use Rattle.tables.proofs.Laws.Filling.{query-table-is, QueryTableTaken, query-table-taken}
 use Rattle.tables.specs.Tables.{pair_size, part_size, layer_at, pair_table, query_table}
 
 -- ---- the pair table as it is filled

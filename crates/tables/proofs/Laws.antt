@@ -1,0 +1,3 @@
+-- Proved facts of the tables.
+pub mod Filling
+pub mod Theorems
