@@ -24,7 +24,7 @@ use Rattle.scores.specs.Eight.Asked.{HourTaken, hour-taken, taken-block, exact-b
 use Rattle.scores.specs.Eight.Scores.{query_total}
 use Rattle.tables.specs.Filling.{lent_asked}
 use Rattle.tables.specs.Laws.Entries.{query_table-long}
-use Rattle.lookups.specs.Laws.Same.{query-totals}
+use Rattle.lookups.proofs.Laws.Same.{query-totals}
 use Rattle.lookups.specs.Laws.Scoring.{first-without}
 use Rattle.lookups.specs.Scoring.{query_total_by}
 use Rattle.tables.specs.Tables.{query_most, part_size, query_table}

@@ -12,7 +12,7 @@ use Rattle.layers.specs.Laws.Rows.{cut-layers}
 use Rattle.records.specs.Eight.Codes.{step_of}
 use Rattle.scores.specs.Laws.Sizes.{step_small}
 use Rattle.tables.specs.Laws.Entries.{entry-within, block-layer}
-use Rattle.lookups.specs.Laws.Rows.{entries_below, row-sum-is}
+use Rattle.lookups.proofs.Laws.Rows.{entries_below, row-sum-is}
 use Rattle.lookups.specs.Laws.Sums.{power_sum, Summed, summed-none, summed-more, summed-most, summed-all, terms, terms-long, terms-at, pair-power, two-power}
 use Rattle.lookups.specs.Scoring.{pair_entry, block_pair_by}
 use Rattle.tables.specs.Tables.{part_size}

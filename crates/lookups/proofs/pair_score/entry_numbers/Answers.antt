@@ -3,7 +3,7 @@ use Rattle.std.proofs.Common.{◌≡◌, sym, ◌∙◌, ap, subst, List, ℕ, �
 use lib.ListN.{set, length-set}
 use Rattle.layers.specs.Digits.{IsLayer, IsCode, entry_of}
 use Rattle.layers.proofs.Laws.Loops.{code-layer}
-use Rattle.lookups.specs.Laws.Rows.{entries-more}
+use Rattle.lookups.proofs.Laws.Rows.{entries-more}
 use Rattle.lookups.proofs.pair_score.entry_numbers.Goals as goal
 
 module _ (m : ℕ) (ds : List ℕ) (i : ℕ) where

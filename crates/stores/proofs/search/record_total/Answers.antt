@@ -12,7 +12,7 @@ use Rattle.records.specs.Eight.Codes.{AreBlocks, block_size, blocks_in}
 use Rattle.scores.specs.Eight.Asked.{taken-block, exact-blocks}
 use Rattle.scores.specs.Eight.Scores.{total, block_query, query_total}
 use Rattle.tables.specs.Laws.Entries.{query_table-long}
-use Rattle.lookups.specs.Laws.Same.{query-totals}
+use Rattle.lookups.proofs.Laws.Same.{query-totals}
 use Rattle.lookups.specs.Scoring.{block_query_by, query_total_by}
 use Rattle.tables.specs.Tables.{query_most, part_size, query_table}
 use Rattle.stores.proofs.search.record_total.Goals as goal

@@ -21,7 +21,7 @@ use Rattle.scores.specs.Eight.Scores.{pair_total, query_total, check_pair, check
 use Rattle.tables.specs.Filling.{check_table, check_entries, check_pair_table, pair_table_room, check_query_table, query_table_room}
 use Rattle.tables.specs.Laws.Entries.{pair_table-long}
 use Rattle.tables.proofs.Laws.Filling.{pair-table-taken}
-use Rattle.lookups.specs.Laws.Same.{pair-totals, query-totals}
+use Rattle.lookups.proofs.Laws.Same.{pair-totals, query-totals}
 use Rattle.lookups.specs.Laws.Scoring.{pair-by-same, query-by-same}
 use Rattle.lookups.specs.Scoring.{pair_total_by, pair_score_by, query_total_by, query_score_by}
 use Rattle.tables.specs.Tables.{pair_size, part_size, pair_table, query_table}
