@@ -3,6 +3,4 @@ pub mod Best
 pub mod Pieces
 pub mod Asked
 pub mod Search
-pub mod Tabled
 pub mod Theorems
-pub mod TableTheorems

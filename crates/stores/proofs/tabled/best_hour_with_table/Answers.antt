@@ -16,7 +16,7 @@ use Rattle.refusals.specs.Laws.Verdicts.{unless-accepted}
 use Rattle.refusals.specs.Limits.{blocks_most}
 use Rattle.refusals.specs.Verdicts.{first_refusal}
 use Rattle.tables.specs.Tables.{query_table}
-use Rattle.stores.specs.Laws.Tabled.{before_store, AskedTaken, asked-taken, CoreTaken, core-taken, by-refused, by-is}
+use Rattle.stores.proofs.Laws.Tabled.{before_store, AskedTaken, asked-taken, CoreTaken, core-taken, by-refused, by-is}
 use Rattle.stores.specs.Tabled.{table_asked}
 use Rattle.stores.specs.Stores.{check_store, best_in, found}
 use Rattle.stores.proofs.tabled.best_hour_with_table.Goals as goal

@@ -8,7 +8,7 @@ use Rattle.refusals.specs.declared.settings.Settings.{Settings}
 use Rattle.refusals.specs.declared.Verdict.{Verdict}
 use Rattle.refusals.specs.declared.Verdict.TheVariants.{Accepted}
 use Rattle.refusals.specs.Laws.Verdicts.{first-accepted}
-use Rattle.stores.specs.Laws.Tabled.{before_store, CoreTaken, asked-taken, core-taken, by-refused, by-is}
+use Rattle.stores.proofs.Laws.Tabled.{before_store, CoreTaken, asked-taken, core-taken, by-refused, by-is}
 use Rattle.stores.specs.Tabled.{table_asked}
 use Rattle.stores.proofs.tabled.best_hour_with_table_units.Goals as goal
 

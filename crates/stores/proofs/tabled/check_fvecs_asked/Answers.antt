@@ -3,7 +3,7 @@ use Rattle.std.proofs.Common.{sym, ◌∙◌}
 use Rattle.records.specs.Eight.Vectors.{fvecs_hour}
 use Rattle.refusals.specs.Laws.Verdicts.{first-last}
 use Rattle.tables.specs.Filling.{lent_asked}
-use Rattle.stores.specs.Laws.Tabled.{first_taken, first-coder, asked_is}
+use Rattle.stores.proofs.Laws.Tabled.{first_taken, first-coder, asked_is}
 use Rattle.stores.proofs.tabled.check_fvecs_asked.Goals as goal
 
 pub check_fvecs_lent-requires : goal.check_fvecs_lent-requires

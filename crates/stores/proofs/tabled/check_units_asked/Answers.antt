@@ -9,7 +9,7 @@ use Rattle.refusals.specs.Steps.{check_steps}
 use Rattle.refusals.specs.Verdicts.{first_refusal}
 use Rattle.tables.specs.Filling.{check_table, lent_asked}
 use Rattle.tables.specs.Tables.{query_most}
-use Rattle.stores.specs.Laws.Tabled.{first_taken, first-coder, asked_is}
+use Rattle.stores.proofs.Laws.Tabled.{first_taken, first-coder, asked_is}
 use Rattle.stores.specs.Tabled.{table_asked}
 use Rattle.stores.proofs.tabled.check_units_asked.Goals as goal
 

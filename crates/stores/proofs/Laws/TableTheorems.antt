@@ -29,7 +29,7 @@ use Rattle.lookups.specs.Laws.Scoring.{first-without}
 use Rattle.lookups.specs.Scoring.{query_total_by}
 use Rattle.tables.specs.Tables.{query_most, part_size, query_table}
 use Rattle.stores.specs.Laws.Asked.{store-taken}
-use Rattle.stores.specs.Laws.Tabled.{asked-taken, hour-accepted, before_store, search-by-is}
+use Rattle.stores.proofs.Laws.Tabled.{asked-taken, hour-accepted, before_store, search-by-is}
 use Rattle.stores.specs.Stores.{check_store, StoreTaken, record_at, best_in, check_best, found, best_hour}
 use Rattle.stores.specs.Tabled.{table_asked, check_best_by, best_hour_by, best_hour_table}
 

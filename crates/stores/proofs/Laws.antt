@@ -1,0 +1,3 @@
+-- Proved facts of stores.
+pub mod Tabled
+pub mod TableTheorems
