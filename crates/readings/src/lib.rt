@@ -40,6 +40,7 @@ pub fn measure_units(x: i32) -> Measured
 
 // A binary32 pattern: a NaN is missing, an infinity is out of range, and any other is judged by its nearest whole units.
 // From 32768 on, an infinity too, it is out of range before it is rounded.
+#[tactic(auto, using(crate::proofs::Laws::Patterns::sizes))]
 pub fn measure_bits(bits: u32) -> Measured
     ensures { result ≡ measure_bits bits }
 {

@@ -125,6 +125,9 @@ module _ (bits : ℕ) where
   pub pattern-nan : 0x7f80_0000 < size → measure_bits bits ≡ Missing
   pattern-nan h = float-missing (of_bits binary32 bits) (is-nan h)
 
+-- what a pattern's size tells of it
+pub ruleset sizes = (pattern-nan, pattern-far)
+
 -- ---- a magnitude above 16384 is out of range: judged by the value as by the units
 
 same-value : (f : Float) (sign sign' : Bool) (a b c d : ℕ) → HasValue f sign a c → HasValue f sign' b d → a * d ≡ b * c
