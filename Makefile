@@ -14,4 +14,4 @@ bench:
 	bash bench/run
 
 clean:
-	rm -rf target
+	rm -rf target crates/*/out
