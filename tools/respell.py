@@ -11,6 +11,8 @@ import glob
 import re
 
 NAME = re.compile(r"(?<![A-Za-z0-9_'])[a-z][a-z0-9_]*(?:[A-Z][A-Za-z0-9_]*)")
+# The page on the port, which says old names beside new ones.
+PAGE = "docs/PORT.md"
 SPAN = re.compile(r"`[^`\n]+`")
 # The lemmas that would meet a definition, each with the files that have it beside that definition's name in the old spelling.
 MEETING = {
@@ -33,7 +35,7 @@ def turned(path, text):
 
 def main():
     for path in sorted(glob.glob("crates/**/*.*", recursive=True) + glob.glob("*.md") + glob.glob("docs/*.md")):
-        if path.endswith((".antt", ".rt", ".edit", ".md")) and "/out/" not in path:
+        if path.endswith((".antt", ".rt", ".edit", ".md")) and "/out/" not in path and path != PAGE:
             with open(path, encoding="utf-8") as file:
                 text = file.read()
             new = turned(path, text)
