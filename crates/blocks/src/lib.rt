@@ -18,16 +18,10 @@ pub struct Trial {
 
 // Twice eight readings.
 fn doubled(x: &[i32]) -> [i64; 8]
-    requires { length x.now ≡ 8 }
+    requires { Block x.now }
     ensures { result ≡ scale_v (pos 2) x.now }
 {
-    let mut r: [i64; 8] = [0; 8];
-    let mut i: usize = 0;
-    while i < 8 {
-        r[i] = 2 * (x[i] as i64);
-        i = i + 1;
-    }
-    r
+    std::array::from_fn(|i| 2 * i64::from(x[i]))
 }
 
 // Whether nothing is left over: all eight numbers are 0.
@@ -35,14 +29,7 @@ fn nothing_left(e: &[i64; 8]) -> bool
     requires { length e.now ≡ 8 }
     ensures { result ≡ nothing_left e.now }
 {
-    let mut i: usize = 0;
-    while i < 8 {
-        if e[i] != 0 {
-            return false;
-        }
-        i = i + 1;
-    }
-    true
+    e.iter().all(|x| *x == 0)
 }
 
 // The trial of a block at a step. The digits of its point are written to the front of the lent bytes, layer 0 first.
@@ -61,11 +48,9 @@ fn width(q: i64, m: usize) -> i64
     requires { Base q × (nat_abs q ^ m ≤ long_power) }
     ensures { result ≡ pos (width (nat_abs q) m) }
 {
-    let mut w: i64 = 0;
-    let mut i: usize = 0;
-    while i < m {
+    let mut w = 0;
+    for _ in 0..m {
         w = q + q * w;
-        i = i + 1;
     }
     w
 }
@@ -93,12 +78,10 @@ pub fn code_block(x: &[i32], steps: &[i32], q: i64, m: usize, out: &mut [u8]) ->
     ensures room { out.new ≡ tried_room e8 nearest (nat_abs q) m 0 steps.now x.now out.old }
 {
     let reach = width(q, m) + 1;
-    let mut t: usize = 0;
-    while t < steps.len() {
-        if try_place(x, steps[t] as i64, t, reach, q, m, out) {
+    for (t, s) in steps.iter().enumerate() {
+        if try_place(x, i64::from(*s), t, reach, q, m, out) {
             return t;
         }
-        t = t + 1;
     }
-    t
+    steps.len()
 }

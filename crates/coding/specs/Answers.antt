@@ -1,16 +1,13 @@
 -- What is answered where a point is coded or decoded by itself (01, Layers and steps).
-use Rattle.std.specs.Prelude.{◌&&◌, cond, List, [], ◌∷◌, ℕ, suc, ◌*◌, eqb, leb, ltb, ℤ, nat_abs, length}
+use Rattle.std.specs.Prelude.{◌&&◌, cond, List, [], ◌∷◌, ℕ, suc, ◌*◌, eqb, leb, ltb, ℤ, nat_abs, length, Ok, Err}
 use Rattle.integers.specs.Vectors.{small}
 use Rattle.refusals.specs.declared.settings.Settings.{Settings}
 use Rattle.refusals.specs.declared.Refusal.TheVariants.{Size, Byte, Point}
-use Rattle.refusals.specs.declared.Verdict.{Verdict}
-use Rattle.refusals.specs.declared.Verdict.TheVariants.{Accepted, Refused}
 use Rattle.refusals.specs.Answers.{written}
 use Rattle.refusals.specs.Limits.{point_most}
 use Rattle.refusals.specs.Settings.{check_settings}
-use Rattle.refusals.specs.Verdicts.{unless, first_refusal}
-use Rattle.lattice.specs.declared.PointAnswer.{PointAnswer}
-use Rattle.lattice.specs.Answers.{answered}
+use Rattle.refusals.specs.Verdicts.{unless, first_refusal, Verdict}
+use Rattle.lattice.specs.Answers.{answered, PointAnswer}
 use Rattle.lattice.specs.Doubled.{is_point}
 use Rattle.layers.specs.E8.{digits8, leftover8, decode8}
 
@@ -32,8 +29,8 @@ digit_room c e out = written (check_point c e (length out)) (digits8 (nat_abs c.
 
 -- each digit below q; else the place of the first that is not, counted from i
 abbrev pub check_below : ℕ → ℕ → List ℕ → Verdict
-check_below q i [] = Accepted
-check_below q i (d ∷ ds) = cond (ltb d q) (check_below q (suc i) ds) (Refused (Byte i))
+check_below q i [] = Ok tt
+check_below q i (d ∷ ds) = cond (ltb d q) (check_below q (suc i) ds) (Err (Byte i))
 
 -- settings; exactly 8 M digits; each below q
 unfoldable pub check_digits : Settings → List ℕ → Verdict

@@ -7,39 +7,31 @@ ghost use Rattle.coding.specs.Answers.{check_point, check_below, check_digits};
 ghost use Rattle.layers.specs.Digits.{Below};
 
 use refusals::settings::Settings;
-use refusals::{Refusal, Verdict, settings};
+use refusals::{Refusal, settings};
 
 // Whether eight numbers are a doubled point with no coordinate past its limit.
 fn good_point(e: &[i32]) -> bool
     requires { length e.now ≡ 8 }
     ensures { result ≡ small point_most e.now && is_point e.now }
 {
-    if integers::small(e, lattice::POINT_MOST) {
-        lattice::member::is_point(&lattice::lent::widen(e))
-    } else {
-        false
-    }
+    integers::small(e, lattice::POINT_MOST) && lattice::member::is_point(&lattice::lent::widen(e))
 }
 
 // Refusal 1 for the settings, 3 where there are not eight numbers or the room is under 8 M, 9 where they are no point.
-pub fn check_point(s: Settings, e: &[i32], room: usize) -> Verdict
+pub fn check_point(s: Settings, e: &[i32], room: usize) -> Result<(), Refusal>
     ensures { result ≡ check_point s e.now room }
 {
-    match settings::check_settings(s) {
-        Verdict::Refused(r) => Verdict::Refused(r),
-        Verdict::Accepted => {
-            if e.len() != 8 {
-                return Verdict::Refused(Refusal::Size(0));
-            }
-            if room < 8 * settings::layers(s) {
-                return Verdict::Refused(Refusal::Size(1));
-            }
-            if good_point(e) {
-                Verdict::Accepted
-            } else {
-                Verdict::Refused(Refusal::Point)
-            }
-        }
+    settings::check_settings(s)?;
+    if e.len() != 8 {
+        return Err(Refusal::Size(0));
+    }
+    if room < 8 * settings::layers(s) {
+        return Err(Refusal::Size(1));
+    }
+    if good_point(e) {
+        Ok(())
+    } else {
+        Err(Refusal::Point)
     }
 }
 
@@ -47,60 +39,52 @@ pub fn check_point(s: Settings, e: &[i32], room: usize) -> Verdict
 pub fn larger(a: u8, b: u8) -> u8
     ensures { (a ≤ result) × (b ≤ result) }
 {
-    if a < b { b } else { a }
+    a.max(b)
 }
 
 // A number that no digit is past: the greatest of them, found without a jump for each.
 pub fn greatest(ds: &[u8]) -> u8
     ensures { Below (suc result) ds.now }
 {
-    let mut top: u8 = 0;
-    let mut i: usize = 0;
-    while i < ds.len() {
-        top = larger(top, ds[i]);
-        i = i + 1;
+    let mut top = 0;
+    for d in ds {
+        top = larger(top, *d);
     }
     top
 }
 
 // Refusal 7 with the place of the first digit that is not below q, where the first digit's place is `first`: digit by digit.
-fn first_above(ds: &[u8], q: usize, first: usize) -> Verdict
+fn first_above(ds: &[u8], q: usize, first: usize) -> Result<(), Refusal>
     requires { first + length ds.now < 2 ^ 64 }
     ensures { result ≡ check_below q first ds.now }
 {
-    let mut i: usize = 0;
-    while i < ds.len() {
-        if ds[i] as usize >= q {
-            return Verdict::Refused(Refusal::Byte(first + i));
+    for (i, d) in ds.iter().enumerate() {
+        if *d as usize >= q {
+            return Err(Refusal::Byte(first + i));
         }
-        i = i + 1;
     }
-    Verdict::Accepted
+    Ok(())
 }
 
 // The same at a glance: most digits are good.
-pub fn check_below(ds: &[u8], q: usize, first: usize) -> Verdict
+pub fn check_below(ds: &[u8], q: usize, first: usize) -> Result<(), Refusal>
     requires { first + length ds.now < 2 ^ 64 }
     ensures { result ≡ check_below q first ds.now }
 {
     if (greatest(ds) as usize) < q {
-        return Verdict::Accepted;
+        return Ok(());
     }
     first_above(ds, q, first)
 }
 
 // Refusal 1 for the settings, 3 where there are not exactly 8 M digits, 7 where one is not below q.
-pub fn check_digits(s: Settings, ds: &[u8]) -> Verdict
+pub fn check_digits(s: Settings, ds: &[u8]) -> Result<(), Refusal>
     ensures { result ≡ check_digits s ds.now }
 {
-    match settings::check_settings(s) {
-        Verdict::Refused(r) => Verdict::Refused(r),
-        Verdict::Accepted => {
-            if ds.len() == 8 * settings::layers(s) {
-                check_below(ds, settings::digit_values(s), 0)
-            } else {
-                Verdict::Refused(Refusal::Size(0))
-            }
-        }
+    settings::check_settings(s)?;
+    if ds.len() == 8 * settings::layers(s) {
+        check_below(ds, settings::digit_values(s), 0)
+    } else {
+        Err(Refusal::Size(0))
     }
 }

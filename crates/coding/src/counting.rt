@@ -8,14 +8,12 @@ pub fn count_up(ds: &mut [u8], q: u8)
     requires { Below q ds.old }
     ensures { ds.new ≡ counted_up q ds.old }
 {
-    let mut k: usize = 0;
-    while k < ds.len() {
-        let d = ds[k] + 1;
+    for x in ds.iter_mut() {
+        let d = *x + 1;
         if d < q {
-            ds[k] = d;
+            *x = d;
             return;
         }
-        ds[k] = 0;
-        k = k + 1;
+        *x = 0;
     }
 }

@@ -7,45 +7,30 @@ pub mod counting;
 ghost use Rattle.std.specs.Prelude.{◌≡◌, length};
 ghost use Rattle.coding.specs.Answers.{coded, digit_room, decoded};
 
-use lattice::PointAnswer;
 use layers::{digits, points};
 use refusals::settings::Settings;
-use refusals::{Verdict, settings};
+use refusals::{Refusal, settings};
 
 // The point coder: writes the 8 M digits of a doubled point, layer 0 first, to the front of the lent bytes, and answers what is left over.
-pub fn digits_of_point(s: Settings, e: &[i32], out: &mut [u8]) -> PointAnswer
+pub fn digits_of_point(s: Settings, e: &[i32], out: &mut [u8]) -> Result<[i32; 8], Refusal>
     ensures answer { result ≡ coded s e.now (length out.old) }
     ensures room { out.new ≡ digit_room s e.now out.old }
 {
-    match asked::check_point(s, e, out.len()) {
-        Verdict::Refused(r) => lattice::refused(r),
-        Verdict::Accepted => {
-            let g = digits::digits(
-                &lattice::lent::widen(e),
-                settings::base(s),
-                settings::layers(s),
-                out,
-            );
-            PointAnswer {
-                verdict: Verdict::Accepted,
-                point: lattice::lent::narrow(&g),
-            }
-        }
-    }
+    asked::check_point(s, e, out.len())?;
+    let g = digits::digits(
+        &lattice::lent::widen(e),
+        settings::base(s),
+        settings::layers(s),
+        out,
+    );
+    Ok(lattice::lent::narrow(&g))
 }
 
 // The point decoder: the doubled point of 8 M digits, layer 0 first.
-pub fn point_of_digits(s: Settings, ds: &[u8]) -> PointAnswer
+pub fn point_of_digits(s: Settings, ds: &[u8]) -> Result<[i32; 8], Refusal>
     ensures answer { result ≡ decoded s ds.now }
 {
-    match asked::check_digits(s, ds) {
-        Verdict::Refused(r) => lattice::refused(r),
-        Verdict::Accepted => {
-            let e = points::decode_one(ds, settings::base(s), settings::layers(s));
-            PointAnswer {
-                verdict: Verdict::Accepted,
-                point: lattice::lent::narrow(&e),
-            }
-        }
-    }
+    asked::check_digits(s, ds)?;
+    let e = points::decode_one(ds, settings::base(s), settings::layers(s));
+    Ok(lattice::lent::narrow(&e))
 }

@@ -1,14 +1,9 @@
 -- The nearest point in narrow numbers: what it is asked for, how its numbers stand for those of the pass, and how large they are. No promise to a user cites these.
-use Rattle.std.specs.Prelude.{◌≡◌, cond, List, map, ℕ, zero, suc, ◌+◌, ◌*◌, ◌<◌, ◌≤◌, eqb, ℤ, pos, neg_ℤ, nat_abs, ◌+ℤ◌, ◌-ℤ◌, ◌*ℤ◌, length, ◌≤ℤ◌, ◌<ℤ◌}
+use Rattle.std.specs.Prelude.{◌≡◌, cond, List, map, ℕ, ◌+◌, ◌*◌, ◌<◌, ◌≤◌, eqb, ℤ, pos, neg_ℤ, nat_abs, ◌+ℤ◌, ◌-ℤ◌, ◌*ℤ◌, length, ◌≤ℤ◌, ◌<ℤ◌}
 use Rattle.integers.specs.Vectors.{«at», range}
-use Rattle.rounding.specs.declared.half.Mend.{Mend}
-use Rattle.rounding.specs.declared.half.Scan.{Scan}
-use Rattle.columns.specs.declared.narrow.Choice as choices
-use Rattle.columns.specs.declared.narrow.Mend as mends
-use Rattle.columns.specs.declared.narrow.Scan as scans
-use Rattle.rounding.specs.declared.point.Choice.{Choice}
-use Rattle.rounding.specs.Pass.{seen}
-use Rattle.rounding.specs.Rounding.{sign, key}
+pub use Rattle.rounding.specs.Pass.{scanned_from}
+use Rattle.rounding.specs.Pass.{Scan, Mend, Choice}
+use Rattle.rounding.specs.Rounding.{sign}
 
 -- a divisor up to 16, and eight numbers that three comparisons round
 pub record Narrow (s : ℤ) (d : List ℤ) : Type 0 where
@@ -30,22 +25,11 @@ pub record Near (s x : ℤ) : Type 0 where
 
 -- ---- the structures of the narrow code, as those of the wide one
 
-abbrev pub wide : scans.Scan → Scan
-wide c = record { most = c.most; least = c.least; keys = c.keys; sum = c.sum; even = c.even; odd = c.odd }
+abbrev pub wide : Scan → Scan
+wide c = c
 
-abbrev pub wide_mend : mends.Mend → Mend
-wide_mend m = record { place = m.place; step = m.step; cost = m.cost }
-
--- a choice without its cost
-abbrev pub brief : Choice → choices.Choice
-brief h = record { parity = h.parity; place = h.mend.place; step = h.mend.step }
-
--- ---- a pass over some entries
-
--- what n entries of the roundings f, which leave r, show, from the entry k on
-unfoldable pub scanned_from : ℤ → ℕ → ℕ → List ℤ → List ℤ → Scan
-scanned_from s k zero f r = record { most = key k («at» r k); least = key k («at» r k); keys = 0; sum = pos 0; even = pos 0; odd = pos 0 }
-scanned_from s k (suc n) f r = seen s (scanned_from s k n f r) («at» f (k + n)) («at» r (k + n)) (k + n)
+abbrev pub brief : Choice → Choice
+brief h = h
 
 -- ---- how large they are
 
@@ -79,9 +63,9 @@ pub record Slight (m : Mend) : Type 0 where
 -- ---- what is left
 
 -- what the chosen half, mended, leaves at the entry i, where the rounding leaves a
-abbrev pub left_at : ℤ → choices.Choice → List ℤ → ℕ → ℤ
+abbrev pub left_at : ℤ → Choice → List ℤ → ℕ → ℤ
 left_at s c a i = «at» a i -ℤ s *ℤ (c.parity *ℤ sign («at» a i) +ℤ cond (eqb i c.place) c.step (pos 0))
 
 -- of all eight
-abbrev pub left_by : ℤ → choices.Choice → List ℤ → List ℤ
+abbrev pub left_by : ℤ → Choice → List ℤ → List ℤ
 left_by s c a = map (left_at s c a) (range 0 8)

@@ -3,7 +3,7 @@
 
 pub mod narrow;
 
-ghost use Rattle.std.specs.Prelude.{◌≡◌, map, ◌+◌, ◌<◌, ◌≤◌, pos, nat_abs, ◌+ℤ◌, ◌-ℤ◌, ◌*ℤ◌};
+ghost use Rattle.std.specs.Prelude.{◌≡◌, [], map, ◌+◌, ◌<◌, ◌≤◌, pos, nat_abs, ◌+ℤ◌, ◌-ℤ◌, ◌*ℤ◌, get_or};
 ghost use Rattle.integers.specs.Vectors.{«at», Sized};
 ghost use Rattle.lattice.specs.Basis.{point_of};
 ghost use Rattle.columns.specs.Columns.{column, Square8, LayerColumns, PointColumns};
@@ -11,18 +11,17 @@ ghost use Rattle.layers.specs.Digits.{IsLayer};
 ghost use Rattle.layers.specs.E8.{layer_point8};
 ghost use Rattle.layers.specs.Sizes.{Base};
 
-// The digits of the layer t.
-fn column(c: &[[u8; 8]; 8], t: usize) -> [u8; 8]
-    requires { (t < 8) × Square8 c.now }
-    ensures { result ≡ column 0 t c.now }
+// The entry t of each of eight rows.
+pub fn column<T: Copy>(rows: &[[T; 8]; 8], t: usize) -> [T; 8]
+    requires { (t < 8) × Square8 rows.now }
+    ensures { (blank : T) → result ≡ column blank t rows.now }
 {
-    let mut r: [u8; 8] = [0; 8];
-    let mut j: usize = 0;
-    while j < 8 {
-        r[j] = c[j][t];
-        j = j + 1;
-    }
-    r
+    std::array::from_fn(
+        |j: usize| -> T
+            requires { (j < 8) × (t < 8) × Square8 rows.now }
+            ensures { (blank : T) → result ≡ get_or (get_or rows.entry.now j []) t blank }
+        { rows[j][t] },
+    )
 }
 
 // Eight digits below 16 as coefficients.
@@ -30,13 +29,7 @@ pub fn widened(ds: &[u8; 8]) -> [i16; 8]
     requires { IsLayer 8 16 ds.now }
     ensures { result ≡ map pos ds.now }
 {
-    let mut r: [i16; 8] = [0; 8];
-    let mut k: usize = 0;
-    while k < 8 {
-        r[k] = ds[k] as i16;
-        k = k + 1;
-    }
-    r
+    std::array::from_fn(|k| i16::from(ds[k]))
 }
 
 // A middle coordinate of a doubled point: twice the coefficient k, less twice the next, and the last.
@@ -81,15 +74,11 @@ pub fn layer_points(c: &[[u8; 8]; 8], q: i16) -> [[i16; 8]; 8]
     ensures { PointColumns (nat_abs q) c.now result }
 {
     let mut l: [[i16; 8]; 8] = [[0; 8]; 8];
-    let mut t: usize = 0;
-    while t < 8 {
+    for t in 0..8 {
         let r = layer_column(c, t, q);
-        let mut j: usize = 0;
-        while j < 8 {
+        for j in 0..8 {
             l[j][t] = r[j];
-            j = j + 1;
         }
-        t = t + 1;
     }
     l
 }

@@ -6,15 +6,13 @@ use Rattle.integers.specs.Vectors.{«at»}
 use Rattle.layers.specs.Digits.{joined}
 use Rattle.readings.specs.Report.{decoded_value}
 use Rattle.readings.specs.Words.{bytes_of}
-use Rattle.refusals.specs.declared.Answer.{Answer}
 use Rattle.refusals.specs.declared.settings.Settings.{Settings}
 use Rattle.refusals.specs.declared.Refusal.TheVariants.{Size}
-use Rattle.refusals.specs.declared.Verdict.{Verdict}
-use Rattle.refusals.specs.Answers.{valued, written}
+use Rattle.refusals.specs.Answers.{valued, written, Answer}
 use Rattle.refusals.specs.Limits.{blocks_most}
 use Rattle.refusals.specs.Settings.{check_settings}
 use Rattle.refusals.specs.Steps.{check_steps}
-use Rattle.refusals.specs.Verdicts.{unless, first_refusal}
+use Rattle.refusals.specs.Verdicts.{unless, first_refusal, Verdict}
 use Rattle.records.specs.Eight.Codes.{block_size, blocks_in, code_blocks, step_of, whole_point, check_frame, check_blocks}
 
 -- a decoded reading s·e / 2048 as the four bytes of its binary32 pattern

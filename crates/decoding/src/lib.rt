@@ -11,17 +11,15 @@ use layers::table;
 use readings::words;
 use records::{asked, codes, frames};
 use refusals::settings::Settings;
-use refusals::{Answer, Refusal, Verdict, settings};
+use refusals::{Refusal, settings};
 
 // Eight decoded readings s·e/2048 as their binary32 patterns, little-endian.
 fn put_readings(s: i64, e: &[i16; 8], out: &mut [u8])
     requires { Readable s e.now × (length out.old ≡ 32) }
     ensures { out.new ≡ joined (map (reading_bytes s) e.now) }
 {
-    let mut i: usize = 0;
-    while i < 8 {
+    for i in 0..8 {
         words::put_decoded(out, 4 * i, s, e[i] as i64);
-        i = i + 1;
     }
 }
 
@@ -33,15 +31,13 @@ fn put_blocks(t: &[i8], steps: &[i32], body: &[u8], q: i64, m: usize, k: usize, 
     let mut rows: [[i16; 8]; 64] = [[0; 8]; 64];
     points::whole_points(t, body, q, m, k, &mut rows);
     let n = codes::block_size(m);
-    let mut i: usize = 0;
-    while i < k {
+    for i in 0..k {
         let at = n * i;
         let end = at + n;
         let from = 32 * i;
         let to = from + 32;
         let s = codes::step_of(steps, &body[at..end]);
         put_readings(s, &rows[i], &mut out[from..to]);
-        i = i + 1;
     }
 }
 
@@ -70,41 +66,30 @@ fn put_record(steps: &[i32], code: &[u8], q: i64, m: usize, out: &mut [u8]) -> u
 }
 
 // Refusals 1 and 2, 10 for the record, 3 where the room is under 4 + 32 K bytes, 7 for the record's bytes.
-fn check_decode(s: Settings, steps: &[i32], code: &[u8], room: usize) -> Verdict
+fn check_decode(s: Settings, steps: &[i32], code: &[u8], room: usize) -> Result<(), Refusal>
     ensures { result ≡ check_decode s steps.now code.now room }
 {
-    match asked::check_coder(s, steps) {
-        Verdict::Refused(r) => Verdict::Refused(r),
-        Verdict::Accepted => {
-            let m = settings::layers(s);
-            let size = codes::block_size(m);
-            if frames::good_record(code, 1, size, 1, frames::BLOCKS_MOST) {
-                let k = codes::blocks_in(code, m);
-                if room < 4 + 32 * k {
-                    return Verdict::Refused(Refusal::Size(1));
-                }
-                let q = settings::digit_values(s);
-                codes::check_blocks(&code[4..], k, size, steps.len(), q, 0)
-            } else {
-                Verdict::Refused(Refusal::Record(0))
-            }
+    asked::check_coder(s, steps)?;
+    let m = settings::layers(s);
+    let size = codes::block_size(m);
+    if frames::good_record(code, 1, size, 1, frames::BLOCKS_MOST) {
+        let k = codes::blocks_in(code, m);
+        if room < 4 + 32 * k {
+            return Err(Refusal::Size(1));
         }
+        let q = settings::digit_values(s);
+        codes::check_blocks(&code[4..], k, size, steps.len(), q, 0)
+    } else {
+        Err(Refusal::Record(0))
     }
 }
 
 // Decodes a code record into an fvecs record at the front of the lent bytes; its value is how many bytes were written.
-pub fn decode(s: Settings, steps: &[i32], code: &[u8], out: &mut [u8]) -> Answer
+pub fn decode(s: Settings, steps: &[i32], code: &[u8], out: &mut [u8]) -> Result<i64, Refusal>
     ensures answer { result ≡ decoded s steps.now code.now (length out.old) }
     ensures room { out.new ≡ decoded_room s steps.now code.now out.old }
 {
-    match check_decode(s, steps, code, out.len()) {
-        Verdict::Refused(r) => refusals::refused(r),
-        Verdict::Accepted => {
-            let n = put_record(steps, code, settings::base(s), settings::layers(s), out);
-            Answer {
-                verdict: Verdict::Accepted,
-                value: n as i64,
-            }
-        }
-    }
+    check_decode(s, steps, code, out.len())?;
+    let n = put_record(steps, code, settings::base(s), settings::layers(s), out);
+    Ok(n as i64)
 }

@@ -1,25 +1,22 @@
 -- From readings to codes (01, Layers and steps; Bytes).
-use Rattle.std.specs.Prelude.{cond, List, [], ◌∷◌, ◌++◌, map, ℕ, suc, ◌*◌, leb, ltb, ℤ, pos, length}
+use Rattle.std.specs.Prelude.{cond, List, [], ◌∷◌, ◌++◌, map, ℕ, suc, ◌*◌, leb, ltb, ℤ, pos, length, Ok, Err}
 use Rattle.blocks.specs.Trials.{first_fitting, block_code}
 use Rattle.layers.specs.Digits.{joined}
 use Rattle.readings.specs.Words.{bytes_of}
-use Rattle.refusals.specs.declared.Answer.{Answer}
 use Rattle.refusals.specs.declared.settings.Settings.{Settings}
 use Rattle.refusals.specs.declared.Refusal.TheVariants.{Size, Overload}
-use Rattle.refusals.specs.declared.Verdict.{Verdict}
-use Rattle.refusals.specs.declared.Verdict.TheVariants.{Accepted, Refused}
-use Rattle.refusals.specs.Answers.{valued, written}
+use Rattle.refusals.specs.Answers.{valued, written, Answer}
 use Rattle.refusals.specs.Settings.{check_settings}
 use Rattle.refusals.specs.Steps.{check_steps}
-use Rattle.refusals.specs.Verdicts.{unless, first_refusal}
+use Rattle.refusals.specs.Verdicts.{unless, first_refusal, Verdict}
 use Rattle.layers.specs.Code.{Code, size_of}
 use Rattle.records.specs.Codes.{block_size, code_length}
 use Rattle.records.specs.Vectors.{Hour, check_readings, units_taken, blocks_of, in_blocks}
 
 -- a block that every listed step overloads is refused by its number, counted from k
 abbrev pub check_fits : Code → List ℤ → ℕ → List (List ℤ) → Verdict
-check_fits C steps k [] = Accepted
-check_fits C steps k (X ∷ l) = cond (ltb (first_fitting C.lattice C.rule C.q C.m steps X) (length steps)) (check_fits C steps (suc k) l) (Refused (Overload k))
+check_fits C steps k [] = Ok tt
+check_fits C steps k (X ∷ l) = cond (ltb (first_fitting C.lattice C.rule C.q C.m steps X) (length steps)) (check_fits C steps (suc k) l) (Err (Overload k))
 
 -- the bytes of the blocks, each at the first step that fits it
 abbrev pub code_bytes : Code → List ℤ → List (List ℤ) → List ℕ

@@ -1,8 +1,9 @@
 -- The listed blocks A to J (01, The proved blocks), as whole operations with their whole answers.
-use Rattle.std.specs.Prelude.{List, [], ◌∷◌, ◌++◌, map, ℕ, ◌+◌, ℤ, pos, negsuc, length, replicate}
+use Rattle.std.specs.Prelude.{List, [], ◌∷◌, ◌++◌, map, ℕ, ◌+◌, ℤ, pos, negsuc, length, replicate, Result}
+use Rattle.std.specs.Result.{result_unwrap_or}
 use Rattle.integers.specs.Vectors.{zeros, scale_v}
 use Rattle.refusals.specs.declared.settings.Settings.{Settings}
-use Rattle.refusals.specs.declared.Verdict.{Verdict}
+use Rattle.refusals.specs.declared.Refusal.{Refusal}
 use Rattle.refusals.specs.Verdicts.{number_of, place_of}
 use Rattle.lattice.specs.Answers.{nearest}
 use Rattle.coding.specs.Answers.{decoded}
@@ -20,8 +21,8 @@ pub data Row : Type 0 where
   coded-as : (q m : ℤ) (steps X : List ℤ) (block : List ℕ) → Row
 
 -- an answer in one list: number and place, then the values
-abbrev answer : Verdict → List ℤ → List ℤ
-answer v l = pos (number_of v) ∷ pos (place_of v) ∷ l
+abbrev answer : {A : Type 0} → Result A Refusal → List ℤ → List ℤ
+answer a l = pos (number_of a) ∷ pos (place_of a) ∷ l
 
 -- a record of one block
 abbrev recorded : List ℕ → List ℕ
@@ -29,13 +30,13 @@ recorded b = length b ∷ 0 ∷ 0 ∷ 0 ∷ b
 
 -- an hour of one block, encoded into 13 bytes 0: the answer's value, then the room
 abbrev encoded_here : Settings → List ℤ → List ℤ → List ℤ
-encoded_here c steps X = let a = encoded (eight_of c) c steps (units_hour X) 13 in answer a.verdict (a.value ∷ map pos (encoded_room (eight_of c) c steps (units_hour X) (replicate 13 0)))
+encoded_here c steps X = let a = encoded (eight_of c) c steps (units_hour X) 13 in answer a (result_unwrap_or a (pos 0) ∷ map pos (encoded_room (eight_of c) c steps (units_hour X) (replicate 13 0)))
 
 -- what the operation answers
 abbrev pub answered : Row → List ℤ
-answered (nearest-is X s e) = let a = nearest (scale_v (pos 2) X) s in answer a.verdict a.point
-answered (decodes-to q m digits e) = let a = decoded (record { q = q; m = m }) digits in answer a.verdict a.point
-answered (scores-itself q m s b z) = let a = pair_score (record { q = q; m = m }) (s ∷ []) (recorded b) (s ∷ []) (recorded b) in answer a.verdict (a.value ∷ [])
+answered (nearest-is X s e) = let a = nearest (scale_v (pos 2) X) s in answer a (result_unwrap_or a (zeros 8))
+answered (decodes-to q m digits e) = let a = decoded (record { q = q; m = m }) digits in answer a (result_unwrap_or a (zeros 8))
+answered (scores-itself q m s b z) = let a = pair_score (record { q = q; m = m }) (s ∷ []) (recorded b) (s ∷ []) (recorded b) in answer a (result_unwrap_or a (pos 0) ∷ [])
 answered (refused-with q m steps X n) = encoded_here (record { q = q; m = m }) steps X
 answered (coded-as q m steps X b) = encoded_here (record { q = q; m = m }) steps X
 

@@ -1,13 +1,12 @@
 // What C hands over, and answers as it takes them. include/enkhovrag.h describes them to their callers.
 ghost use Rattle.std.specs.Prelude.{◌≡◌, map, length};
+ghost use Rattle.reports.specs.Report.{no_readings};
 ghost use Rattle.enkhovrag.specs.Answers.{settings, taken_out, point_out, answer_out, hour_out, reading_out, report_out};
 
-use lattice::PointAnswer;
-use readings::{Reading, Taken};
-use refusals::Answer;
+use readings::{Fault, Reading};
+use refusals::Refusal;
 use refusals::settings::Settings;
-use reports::ReportAnswer;
-use stores::HourAnswer;
+use stores::Best;
 
 // q and M.
 #[repr(C)]
@@ -79,16 +78,16 @@ pub(crate) fn settings_in(s: EkSettings) -> Settings
 }
 
 // A taken reading as C takes it.
-pub(crate) fn taken_out(t: Taken) -> EkTaken
+pub(crate) fn taken_out(t: Result<f32, Fault>) -> EkTaken
     ensures { result ≡ taken_out t }
 {
     match t {
-        Taken::Value(value) => EkTaken { number: 0, value },
-        Taken::Missing => EkTaken {
+        Ok(value) => EkTaken { number: 0, value },
+        Err(Fault::Missing) => EkTaken {
             number: 4,
             value: 0.0,
         },
-        Taken::OutOfRange => EkTaken {
+        Err(Fault::OutOfRange) => EkTaken {
             number: 5,
             value: 0.0,
         },
@@ -96,40 +95,37 @@ pub(crate) fn taken_out(t: Taken) -> EkTaken
 }
 
 // A point as C takes it.
-pub(crate) fn point_out(a: PointAnswer) -> EkPoint
+pub(crate) fn point_out(a: Result<[i32; 8], Refusal>) -> EkPoint
     ensures { result ≡ point_out a }
 {
-    let v = a.verdict;
-    let e = a.point;
     EkPoint {
-        number: refusals::number_of(v) as u64,
-        place: refusals::place_of(v) as u64,
-        e,
+        number: refusals::number_of(a) as u64,
+        place: refusals::place_of(a) as u64,
+        e: a.unwrap_or([0; 8]),
     }
 }
 
 // An answer whose value is one number, as C takes it.
-pub(crate) fn answer_out(a: Answer) -> EkAnswer
+pub(crate) fn answer_out(a: Result<i64, Refusal>) -> EkAnswer
     ensures { result ≡ answer_out a }
 {
-    let v = a.verdict;
     EkAnswer {
-        number: refusals::number_of(v) as u64,
-        place: refusals::place_of(v) as u64,
-        value: a.value,
+        number: refusals::number_of(a) as u64,
+        place: refusals::place_of(a) as u64,
+        value: a.unwrap_or(0),
     }
 }
 
 // The best hour as C takes it.
-pub(crate) fn hour_out(a: HourAnswer) -> EkHour
+pub(crate) fn hour_out(a: Result<Best, Refusal>) -> EkHour
     ensures { result ≡ hour_out a }
 {
-    let v = a.verdict;
+    let best = a.unwrap_or(Best { hour: 0, score: 0 });
     EkHour {
-        number: refusals::number_of(v) as u64,
-        place: refusals::place_of(v) as u64,
-        hour: a.hour as u64,
-        score: a.score,
+        number: refusals::number_of(a) as u64,
+        place: refusals::place_of(a) as u64,
+        hour: best.hour as u64,
+        score: best.score,
     }
 }
 
@@ -144,35 +140,42 @@ pub(crate) fn reading_out(r: Reading) -> EkReading
     }
 }
 
+// +0.0 throughout.
+fn no_readings() -> [Reading; 8]
+    ensures { result ≡ no_readings }
+{
+    let none = Reading {
+        taken: 0.0,
+        decoded: 0.0,
+        difference: 0.0,
+    };
+    [none; 8]
+}
+
 // The eight of them.
-pub(crate) fn readings_out(given: [Reading; 8]) -> [EkReading; 8]
-    requires { length given ≡ 8 }
-    ensures { result ≡ map reading_out given }
+fn readings_out(given: &[Reading; 8]) -> [EkReading; 8]
+    requires { length given.now ≡ 8 }
+    ensures { result ≡ map reading_out given.now }
 {
     let none = EkReading {
         taken: 0.0,
         decoded: 0.0,
         difference: 0.0,
     };
-    let mut out: [EkReading; 8] = [none; 8];
-    let mut i: usize = 0;
-    while i < 8 {
+    let mut out = [none; 8];
+    for i in 0..8 {
         out[i] = reading_out(given[i]);
-        i = i + 1;
     }
     out
 }
 
 // A report as C takes it.
-pub(crate) fn report_out(a: ReportAnswer) -> EkReportAnswer
-    requires { length a.readings ≡ 8 }
+pub(crate) fn report_out(a: Result<[Reading; 8], Refusal>) -> EkReportAnswer
     ensures { result ≡ report_out a }
 {
-    let v = a.verdict;
-    let readings = a.readings;
     EkReportAnswer {
-        number: refusals::number_of(v) as u64,
-        place: refusals::place_of(v) as u64,
-        reading: readings_out(readings),
+        number: refusals::number_of(a) as u64,
+        place: refusals::place_of(a) as u64,
+        reading: readings_out(&a.unwrap_or(no_readings())),
     }
 }

@@ -9,4 +9,5 @@ pub mod Squares
 pub mod Sums
 pub mod Lexicographic
 pub mod Loops
+pub mod Arrays
 pub mod Tests

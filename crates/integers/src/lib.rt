@@ -44,7 +44,7 @@ pub fn remainder(x: i64, m: i64, w: i64) -> i64
 pub fn wide(b: u8) -> usize
     ensures { (result ≡ b) × (result < 256) }
 {
-    b as usize
+    usize::from(b)
 }
 
 // q to the power m.
@@ -52,11 +52,9 @@ pub fn power(q: u64, m: u64) -> u64
     requires { q ^ m < 2 ^ 64 }
     ensures { result ≡ q ^ m }
 {
-    let mut p: u64 = 1;
-    let mut i: u64 = 0;
-    while i < m {
-        p = p * q;
-        i = i + 1;
+    let mut p = 1;
+    for _ in 0..m {
+        p *= q;
     }
     p
 }
@@ -65,14 +63,14 @@ pub fn power(q: u64, m: u64) -> u64
 pub fn smaller(a: usize, b: usize) -> usize
     ensures { result ≡ min a b }
 {
-    if a < b { a } else { b }
+    a.min(b)
 }
 
 // Whether x lies from least to most.
 pub fn within(x: i32, least: i32, most: i32) -> bool
     ensures { result ≡ within least most x }
 {
-    if x < least { false } else { x <= most }
+    least <= x && x <= most
 }
 
 // Whether every number is at most `most` in magnitude.
@@ -80,13 +78,5 @@ pub fn small(a: &[i32], most: i32) -> bool
     requires { pos 0 ≤ℤ most }
     ensures { result ≡ small (nat_abs most) a.now }
 {
-    let mut i: usize = 0;
-    while i < a.len() {
-        if within(a[i], 0 - most, most) {
-            i = i + 1;
-        } else {
-            return false;
-        }
-    }
-    true
+    a.iter().all(|x| within(*x, -most, most))
 }

@@ -1,18 +1,20 @@
 -- What is answered where the nearest point is asked for by itself (01, The lattice).
-use Rattle.std.specs.Prelude.{◌&&◌, List, [], ◌∷◌, eqb, ℤ, pos, length}
-use Rattle.integers.specs.Vectors.{zeros, within, small}
+use Rattle.std.specs.Prelude.{◌&&◌, List, [], ◌∷◌, eqb, ℤ, pos, length, Result}
+use Rattle.integers.specs.Vectors.{within, small}
+use Rattle.refusals.specs.declared.Refusal.{Refusal}
 use Rattle.refusals.specs.declared.Refusal.TheVariants.{Size, Point}
-use Rattle.refusals.specs.declared.Verdict.{Verdict}
-use Rattle.refusals.specs.declared.Verdict.TheVariants.{Accepted, Refused}
+use Rattle.refusals.specs.Answers.{valued}
 use Rattle.refusals.specs.Limits.{step_most, point_most}
-use Rattle.refusals.specs.Verdicts.{unless, first_refusal}
-use Rattle.lattice.specs.declared.PointAnswer.{PointAnswer}
+use Rattle.refusals.specs.Verdicts.{unless, first_refusal, Verdict}
 use Rattle.lattice.specs.Computed.{nearest_point}
 
--- the point where the verdict accepts, zeros where it refuses
+-- what an operation answers whose value is a doubled point
+abbrev pub PointAnswer : Type 0
+PointAnswer = Result (List ℤ) Refusal
+
+-- the point where the verdict accepts, else the refusal
 abbrev pub answered : Verdict → List ℤ → PointAnswer
-answered Accepted e = record { verdict = Accepted; point = e }
-answered (Refused r) e = record { verdict = Refused r; point = zeros 8 }
+answered = valued
 
 -- eight numbers; each at most 2^26 in magnitude and s from 1 to 1024
 unfoldable pub check_nearest : List ℤ → ℤ → Verdict

@@ -1,7 +1,8 @@
 // The basis of E8 doubled and its inverse, as tables; points and coefficients (01, The lattice).
 ghost use Rattle.std.specs.Prelude.{◌≡◌, [], ◌^◌, ◌<◌, get_or};
+ghost use Rattle.integers.specs.Floor.{floor_div};
 ghost use Rattle.integers.specs.Vectors.{dot, Sized};
-ghost use Rattle.lattice.specs.Basis.{Table8, inverse, apply, floors, point_of, coefficients};
+ghost use Rattle.lattice.specs.Basis.{Table8, point_of, coefficients};
 
 // Row k gives e_k of the coefficients.
 pub const BASIS: [[i64; 8]; 8] = [
@@ -32,70 +33,32 @@ fn row(t: &[[i64; 8]; 8], i: usize, c: &[i64; 8]) -> i64
     requires { (i < 8) × Table8 t.now × Sized 8 (2 ^ 32) c.now }
     ensures { result ≡ dot (get_or t.now i []) c.now }
 {
-    let mut s: i64 = 0;
-    let mut j: usize = 0;
-    while j < 8 {
-        s = s + t[i][j] * c[j];
-        j = j + 1;
+    let mut s = 0;
+    for j in 0..8 {
+        s += t[i][j] * c[j];
     }
     s
 }
 
-// A quarter of each entry, rounded down.
-fn quarters(a: &[i64; 8]) -> [i64; 8]
-    requires { Sized 8 (2 ^ 39) a.now }
-    ensures { result ≡ floors 4 a.now }
+// A quarter, rounded down.
+fn quarter(x: i64) -> i64
+    ensures { result ≡ floor_div x 4 }
 {
-    let mut r: [i64; 8] = [0; 8];
-    let mut i: usize = 0;
-    while i < 8 {
-        r[i] = a[i] >> 2;
-        i = i + 1;
-    }
-    r
+    x >> 2
 }
 
-// The doubled point of eight coefficients. Eight calls with a fixed row each, so that the compiler folds the table into sums.
+// The doubled point of eight coefficients. The compiler folds the table into sums.
 pub fn point_of(c: &[i64; 8]) -> [i64; 8]
     requires { Sized 8 (2 ^ 32) c.now }
     ensures { result ≡ point_of c.now }
 {
-    let t = &BASIS;
-    [
-        row(t, 0, c),
-        row(t, 1, c),
-        row(t, 2, c),
-        row(t, 3, c),
-        row(t, 4, c),
-        row(t, 5, c),
-        row(t, 6, c),
-        row(t, 7, c),
-    ]
+    std::array::from_fn(|k| row(&BASIS, k, c))
 }
 
-// Four times the eight coefficients of a doubled point, in the same way.
-fn four_times(e: &[i64; 8]) -> [i64; 8]
-    requires { Sized 8 (2 ^ 32) e.now }
-    ensures { (result ≡ apply inverse e.now) × Sized 8 (2 ^ 39) result }
-{
-    let t = &INVERSE;
-    [
-        row(t, 0, e),
-        row(t, 1, e),
-        row(t, 2, e),
-        row(t, 3, e),
-        row(t, 4, e),
-        row(t, 5, e),
-        row(t, 6, e),
-        row(t, 7, e),
-    ]
-}
-
-// The eight coefficients of a doubled point.
+// The eight coefficients of a doubled point: a quarter of each row by it, rounded down.
 pub fn coefficients(e: &[i64; 8]) -> [i64; 8]
     requires { Sized 8 (2 ^ 32) e.now }
     ensures { result ≡ coefficients e.now }
 {
-    let four = four_times(e);
-    quarters(&four)
+    std::array::from_fn(|k| quarter(row(&INVERSE, k, e)))
 }

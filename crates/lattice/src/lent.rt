@@ -7,13 +7,7 @@ pub fn widen(a: &[i32]) -> [i64; 8]
     requires { length a.now ≡ 8 }
     ensures { result ≡ a.now }
 {
-    let mut r: [i64; 8] = [0; 8];
-    let mut i: usize = 0;
-    while i < 8 {
-        r[i] = a[i] as i64;
-        i = i + 1;
-    }
-    r
+    std::array::from_fn(|i| i64::from(a[i]))
 }
 
 // The same eight numbers in 32 bits.
@@ -21,11 +15,5 @@ pub fn narrow(a: &[i64; 8]) -> [i32; 8]
     requires { Sized 8 (2 ^ 31 - 1) a.now }
     ensures { result ≡ a.now }
 {
-    let mut r: [i32; 8] = [0; 8];
-    let mut i: usize = 0;
-    while i < 8 {
-        r[i] = a[i] as i32;
-        i = i + 1;
-    }
-    r
+    std::array::from_fn(|i| a[i] as i32)
 }

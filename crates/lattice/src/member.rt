@@ -10,23 +10,14 @@ pub fn odd(t: i64) -> bool
     t % 2 != 0
 }
 
-// 1 of an odd number, 0 of an even one.
-fn parity(x: i64) -> usize
-    ensures { result ≡ par x }
-{
-    if odd(x) { 1 } else { 0 }
-}
-
 // How many of eight numbers are odd.
 fn odds(e: &[i64; 8]) -> usize
     requires { Sized 8 (2 ^ 32) e.now }
     ensures { result ≡ odds e.now }
 {
-    let mut n: usize = 0;
-    let mut i: usize = 0;
-    while i < 8 {
-        n = n + parity(e[i]);
-        i = i + 1;
+    let mut n = 0;
+    for x in e {
+        n += usize::from(odd(*x));
     }
     n
 }
@@ -36,11 +27,9 @@ fn sum(f: &[i64; 8]) -> i64
     requires { Sized 8 (2 ^ 32) f.now }
     ensures { result ≡ sum_v f.now }
 {
-    let mut t: i64 = 0;
-    let mut i: usize = 0;
-    while i < 8 {
-        t = t + f[i];
-        i = i + 1;
+    let mut t = 0;
+    for x in f {
+        t += *x;
     }
     t
 }
@@ -50,10 +39,5 @@ pub fn is_point(e: &[i64; 8]) -> bool
     requires { Sized 8 (2 ^ 32) e.now }
     ensures { result ≡ is_point e.now }
 {
-    let n = odds(e);
-    if n % 8 == 0 {
-        integers::floor_mod(sum(e), 4) == 0
-    } else {
-        false
-    }
+    odds(e) % 8 == 0 && integers::floor_mod(sum(e), 4) == 0
 }

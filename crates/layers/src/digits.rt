@@ -22,10 +22,8 @@ fn remainders(c: &[i64; 8], q: i64, w: i64, out: &mut [u8])
     requires { Base q × Sized 8 (2 ^ 31) c.now × (w ≡ pos (reciprocal (nat_abs q))) × (8 ≤ length out.old) }
     ensures { out.new ≡ remainders (nat_abs q) c.now ++ drop 8 out.old }
 {
-    let mut k: usize = 0;
-    while k < 8 {
+    for k in 0..8 {
         out[k] = remainder(c[k], q, w);
-        k = k + 1;
     }
 }
 
@@ -45,13 +43,11 @@ pub fn digits(e: &[i64; 8], q: i64, m: usize, out: &mut [u8]) -> [i64; 8]
 {
     let w = integers::reciprocal(q);
     let mut g = *e;
-    let mut i: usize = 0;
-    while i < m {
+    for i in 0..m {
         let at = 8 * i;
         let end = at + 8;
         layer_digits(&g, q, w, &mut out[at..end]);
         g = point::nearest_point(&g, q);
-        i = i + 1;
     }
     g
 }

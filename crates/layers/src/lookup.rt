@@ -50,26 +50,12 @@ pub fn entry_number(ds: &[u8], q: usize) -> usize
     half_number(ds, 0, q) + q * q * q * q * half_number(ds, 4, q)
 }
 
-// Eight signed bytes as numbers.
-fn row(t: &[i8]) -> [i16; 8]
-    requires { length t.now ≡ 8 }
-    ensures { result ≡ t.now }
-{
-    let mut r: [i16; 8] = [0; 8];
-    let mut k: usize = 0;
-    while k < 8 {
-        r[k] = t[k] as i16;
-        k = k + 1;
-    }
-    r
-}
-
 // The layer point of eight digits below 2, from the table.
 pub fn table_point(t: &[i8], ds: &[u8]) -> [i16; 8]
     requires { (t.now ≡ layer_table) × IsLayer 8 2 ds.now }
     ensures { result ≡ layer_point8 2 ds.now }
 {
     let at = 8 * entry_number(ds, 2);
-    let end = at + 8;
-    row(&t[at..end])
+    let row = &t[at..at + 8];
+    std::array::from_fn(|k| i16::from(row[k]))
 }

@@ -4,3 +4,4 @@ pub mod Lines
 pub mod Order
 pub mod Lengths
 pub mod Examples
+pub mod Pages

@@ -1,5 +1,5 @@
 -- What the showing program prints (01, The proved blocks).
-use Rattle.std.specs.Prelude.{cond, List, [], ◌∷◌, ◌++◌, map, ℕ, zero, suc, ◌+◌, ◌/◌, ◌%◌, ltb, ℤ, pos, negsuc, nat_abs, get_or, drop}
+use Rattle.std.specs.Prelude.{cond, List, [], ◌∷◌, ◌++◌, map, ℕ, zero, suc, ◌+◌, ◌/◌, ◌%◌, ltb, ℤ, pos, negsuc, nat_abs, get_or, drop, Ok, Err}
 use Prim.Native.Char.{code}
 use Rattle.blocks.specs.Trials.{block_code}
 use Rattle.layers.specs.Digits.{cut}
@@ -7,10 +7,8 @@ use Rattle.layers.specs.E8.{e8, nearest}
 use Rattle.refusals.specs.declared.settings.Settings.{Settings}
 use Rattle.refusals.specs.declared.Refusal.{Refusal}
 use Rattle.refusals.specs.declared.Refusal.TheVariants.{Record}
-use Rattle.refusals.specs.declared.Verdict.{Verdict}
-use Rattle.refusals.specs.declared.Verdict.TheVariants.{Accepted, Refused}
 use Rattle.refusals.specs.Limits.{m_most}
-use Rattle.refusals.specs.Verdicts.{row_of, spot_of, unless}
+use Rattle.refusals.specs.Verdicts.{row_of, spot_of, unless, Verdict}
 use Rattle.records.specs.Eight.Codes.{code_length, step_of, whole_point}
 use Rattle.records.specs.Eight.Vectors.{units_hour}
 use Rattle.layers.specs.Code.{eight_of}
@@ -69,8 +67,8 @@ refusal_line r = line (bytes "refused") (pos (row_of r) ∷ pos (spot_of r) ∷ 
 
 -- of a verdict: the listing f where it accepts, else its refusal
 abbrev pub printed : Verdict → List ℕ → List ℕ
-printed Accepted f = f
-printed (Refused r) f = refusal_line r
+printed (Ok u) f = f
+printed (Err r) f = refusal_line r
 
 -- of what three lines ask for: the eight X are coded as one block, which is refused by 1, 2, 5 or 6, in this order
 unfoldable pub check_shown : Settings → List ℤ → List ℤ → Verdict

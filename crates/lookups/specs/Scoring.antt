@@ -4,14 +4,12 @@ use Rattle.integers.specs.Vectors.{«at»}
 use Rattle.layers.specs.Digits.{cut, entry_of}
 use Rattle.layers.specs.Sums.{layer_sum, pair_sum}
 use Rattle.records.specs.Eight.Codes.{block_size, blocks_in, code_blocks, check_frame, check_blocks, step_of}
-use Rattle.refusals.specs.declared.Answer.{Answer}
 use Rattle.refusals.specs.declared.settings.Settings.{Settings}
-use Rattle.refusals.specs.declared.Verdict.{Verdict}
-use Rattle.refusals.specs.Answers.{valued}
+use Rattle.refusals.specs.Answers.{valued, Answer}
 use Rattle.refusals.specs.Limits.{blocks_most}
 use Rattle.refusals.specs.Settings.{check_settings}
 use Rattle.refusals.specs.Steps.{check_steps}
-use Rattle.refusals.specs.Verdicts.{first_refusal}
+use Rattle.refusals.specs.Verdicts.{first_refusal, Verdict}
 use Rattle.scores.specs.Eight.Scores.{total, check_code}
 use Rattle.tables.specs.Filling.{check_table, check_entries}
 use Rattle.tables.specs.Tables.{pair_most, query_most, pair_size, part_size}

@@ -19,10 +19,8 @@ fn put_layer(body: &[u8], a: usize, t: usize, c: &mut [[u8; 8]; 8])
     requires { (a + 8 ≤ length body.now) × (t < 8) × Square8 c.old }
     ensures { LayerPut t (take 8 (drop a body.now)) c.old c.new }
 {
-    let mut j: usize = 0;
-    while j < 8 {
+    for j in 0..8 {
         c[j][t] = body[a + j];
-        j = j + 1;
     }
 }
 
@@ -32,11 +30,9 @@ fn gathered(body: &[u8], m: usize, i: usize, n: usize) -> [[u8; 8]; 8]
     ensures { Gathered m n i body.now result }
 {
     let size = codes::block_size(m);
-    let mut c: [[u8; 8]; 8] = [[0; 8]; 8];
-    let mut b: usize = 0;
-    while b < n {
+    let mut c = [[0; 8]; 8];
+    for b in 0..n {
         put_layer(body, size * b + (8 * i + 1), b, &mut c);
-        b = b + 1;
     }
     c
 }
@@ -47,16 +43,12 @@ fn gathered_layers(body: &[u8], m: usize, n: usize) -> [[u8; 8]; 8]
     ensures { AllGathered m n body.now result }
 {
     let size = codes::block_size(m);
-    let mut c: [[u8; 8]; 8] = [[0; 8]; 8];
-    let mut b: usize = 0;
-    while b < n {
-        let mut i: usize = 0;
-        while i < m {
+    let mut c = [[0; 8]; 8];
+    for b in 0..n {
+        for i in 0..m {
             let t = m * b + i;
             put_layer(body, size * b + (8 * i + 1), t, &mut c);
-            i = i + 1;
         }
-        b = b + 1;
     }
     c
 }
@@ -78,13 +70,7 @@ fn plus_times(l: &[i16; 8], e: &[i16; 8], q: i16) -> [i16; 8]
     requires { Summable q l.now e.now }
     ensures { result ≡ add_v l.now (scale_v q e.now) }
 {
-    let mut r: [i16; 8] = [0; 8];
-    let mut i: usize = 0;
-    while i < 8 {
-        r[i] = l[i] + q * e[i];
-        i = i + 1;
-    }
-    r
+    std::array::from_fn(|i| l[i] + q * e[i])
 }
 
 // The same, row by row.
@@ -92,11 +78,9 @@ fn rows_plus_times(l: &[[i16; 8]; 8], e: &[[i16; 8]; 8], q: i16) -> [[i16; 8]; 8
     requires { SummableRows q l.now e.now }
     ensures { SummedRows q l.now e.now result }
 {
-    let mut r: [[i16; 8]; 8] = [[0; 8]; 8];
-    let mut j: usize = 0;
-    while j < 8 {
+    let mut r = [[0; 8]; 8];
+    for j in 0..8 {
         r[j] = plus_times(&l[j], &e[j], q);
-        j = j + 1;
     }
     r
 }
@@ -106,10 +90,8 @@ fn whole_coordinate(l: &[i16; 8], t: usize, q: i16, m: usize) -> i16
     requires { Foldable q m t l.now }
     ensures { result ≡ whole_coordinate q m t l.now }
 {
-    let mut z: i16 = 0;
-    let mut i = m;
-    while i > 0 {
-        i = i - 1;
+    let mut z = 0;
+    for i in (0..m).rev() {
         z = l[t + i] + q * z;
     }
     z
@@ -120,10 +102,8 @@ fn fold_row(l: &[i16; 8], n: usize, q: i16, m: usize, r: &mut [i16; 8])
     requires { (n ≤ 8) × FoldableRow q m n l.now × (length r.old ≡ 8) }
     ensures { FoldedRow q m n l.now r.new }
 {
-    let mut b: usize = 0;
-    while b < n {
+    for b in 0..n {
         r[b] = whole_coordinate(l, m * b, q, m);
-        b = b + 1;
     }
 }
 
@@ -132,11 +112,9 @@ fn folded(l: &[[i16; 8]; 8], n: usize, q: i16, m: usize) -> [[i16; 8]; 8]
     requires { (n ≤ 8) × FoldableRows q m n l.now }
     ensures { FoldedRows q m n l.now result }
 {
-    let mut e: [[i16; 8]; 8] = [[0; 8]; 8];
-    let mut j: usize = 0;
-    while j < 8 {
+    let mut e = [[0; 8]; 8];
+    for j in 0..8 {
         fold_row(&l[j], n, q, m, &mut e[j]);
-        j = j + 1;
     }
     e
 }
@@ -146,10 +124,8 @@ pub fn eight_points(body: &[u8], n: usize, q: i16, m: usize) -> [[i16; 8]; 8]
     requires { Digital q m × AreCodes (nat_abs q) m n body.now × (n ≤ 8) }
     ensures { BlockPoints (nat_abs q) m n body.now result }
 {
-    let mut e: [[i16; 8]; 8] = [[0; 8]; 8];
-    let mut i = m;
-    while i > 0 {
-        i = i - 1;
+    let mut e = [[0; 8]; 8];
+    for i in (0..m).rev() {
         let c = taken(body, m, i, n);
         let l = columns::layer_points(&c, q);
         if n * m <= 8 {
@@ -160,29 +136,13 @@ pub fn eight_points(body: &[u8], n: usize, q: i16, m: usize) -> [[i16; 8]; 8]
     e
 }
 
-// The column t.
-fn column(e: &[[i16; 8]; 8], t: usize) -> [i16; 8]
-    requires { (t < 8) × Square8 e.now }
-    ensures { result ≡ column (pos 0) t e.now }
-{
-    let mut r: [i16; 8] = [0; 8];
-    let mut j: usize = 0;
-    while j < 8 {
-        r[j] = e[j][t];
-        j = j + 1;
-    }
-    r
-}
-
 // The first n columns into the lent rows from i on.
 fn put_columns(e: &[[i16; 8]; 8], n: usize, i: usize, rows: &mut [[i16; 8]; 64])
     requires { Square8 e.now × (n ≤ 8) × (i + n ≤ 64) × (length rows.old ≡ 64) }
     ensures { rows.new ≡ (take i rows.old ++ map (λ t. column (pos 0) t e.now) (range 0 n)) ++ drop (i + n) rows.old }
 {
-    let mut b: usize = 0;
-    while b < n {
-        rows[i + b] = column(e, b);
-        b = b + 1;
+    for b in 0..n {
+        rows[i + b] = columns::column(e, b);
     }
 }
 
@@ -192,13 +152,10 @@ fn ruled_points(body: &[u8], q: i16, m: usize, k: usize, rows: &mut [[i16; 8]; 6
     ensures { rows.new ≡ map (whole_point (nat_abs q) m) (cut (block_size m) k body.now) ++ drop k rows.old }
 {
     let size = codes::block_size(m);
-    let mut i: usize = 0;
-    while i < k {
-        let n = integers::smaller(8, k - i);
-        let at = size * i;
-        let e = eight_points(&body[at..], n, q, m);
+    for i in (0..k).step_by(8) {
+        let n = (k - i).min(8);
+        let e = eight_points(&body[size * i..], n, q, m);
         put_columns(&e, n, i, rows);
-        i = i + n;
     }
 }
 
@@ -207,13 +164,10 @@ fn table_point(t: &[i8], ds: &[u8], m: usize) -> [i16; 8]
     requires { (t.now ≡ layer_table) × (m ≤ m_most) × IsCode 8 2 m ds.now }
     ensures { result ≡ decode8 2 m ds.now }
 {
-    let mut e: [i16; 8] = [0; 8];
-    let mut i = m;
-    while i > 0 {
-        i = i - 1;
+    let mut e = [0; 8];
+    for i in (0..m).rev() {
         let at = 8 * i;
-        let end = at + 8;
-        let l = lookup::table_point(t, &ds[at..end]);
+        let l = lookup::table_point(t, &ds[at..at + 8]);
         e = plus_times(&l, &e, 2);
     }
     e
@@ -225,12 +179,9 @@ fn table_points(t: &[i8], body: &[u8], m: usize, k: usize, rows: &mut [[i16; 8];
     ensures { rows.new ≡ map (whole_point 2 m) (cut (block_size m) k body.now) ++ drop k rows.old }
 {
     let size = codes::block_size(m);
-    let mut i: usize = 0;
-    while i < k {
+    for i in 0..k {
         let at = size * i + 1;
-        let end = at + 8 * m;
-        rows[i] = table_point(t, &body[at..end], m);
-        i = i + 1;
+        rows[i] = table_point(t, &body[at..at + 8 * m], m);
     }
 }
 

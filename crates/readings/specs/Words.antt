@@ -2,9 +2,8 @@
 use Rattle.std.specs.Prelude.{ℕ, ◌+◌, ◌*◌, ◌/◌, ◌%◌, List, [], ◌∷◌, ◌++◌, ℤ, get_or, take, drop}
 use Rattle.std.specs.Float.{binary32}
 use Rattle.std.specs.Float.Ieee.{to_bits}
-use Rattle.readings.specs.Taking.{measure_bits}
+use Rattle.readings.specs.Taking.{measure_bits, Measured}
 use Rattle.readings.specs.Report.{decoded_value}
-use Rattle.readings.specs.declared.Measured.{Measured}
 
 -- the number that the four bytes from i on stand for, the lowest first
 abbrev pub word_at : List ℕ → ℕ → ℕ

@@ -9,79 +9,66 @@ pub mod exact;
 mod pattern;
 pub mod words;
 
-// The answer of taking one reading: its value, or why there is none.
-#[derive(Clone, Copy)]
-pub enum Taken {
-    Value(f32),
+// Why there is no reading.
+#[derive(Clone, Copy, Debug, PartialEq, Eq)]
+pub enum Fault {
     Missing,
     OutOfRange,
 }
 
-// The same answer with the whole number X of units of 1/1024 in place of the value.
-#[derive(Clone, Copy)]
-pub enum Measured {
-    Units(i32),
-    Missing,
-    OutOfRange,
-}
-
-// Whole units: past 2^24 either way they are out of range.
-pub fn measure_units(x: i32) -> Measured
+// Whole units X of 1/1024: past 2^24 either way they are out of range.
+pub fn measure_units(x: i32) -> Result<i32, Fault>
     ensures { result ≡ measure_units x }
 {
     if x > 16777216 {
-        return Measured::OutOfRange;
+        return Err(Fault::OutOfRange);
     }
     if x < -16777216 {
-        return Measured::OutOfRange;
+        return Err(Fault::OutOfRange);
     }
-    Measured::Units(x)
+    Ok(x)
 }
 
 // A binary32 pattern: a NaN is missing, an infinity is out of range, and any other is judged by its nearest whole units.
 // From 32768 on, an infinity too, it is out of range before it is rounded.
 #[tactic(auto, using(crate::proofs::Laws::Patterns::sizes))]
-pub fn measure_bits(bits: u32) -> Measured
+pub fn measure_bits(bits: u32) -> Result<i32, Fault>
     ensures { result ≡ measure_bits bits }
 {
     let size = bits % pattern::SIGN;
     if size > pattern::INFINITY {
-        return Measured::Missing;
+        return Err(Fault::Missing);
     }
     if size >= pattern::TOO_LARGE {
-        return Measured::OutOfRange;
+        return Err(Fault::OutOfRange);
     }
     measure_units(pattern::whole_units(bits))
 }
 
 // What a measured reading is handed out as.
-fn taken_of(m: Measured) -> Taken
+fn taken_of(m: Result<i32, Fault>) -> Result<f32, Fault>
     requires { InRange m }
     ensures { result ≡ taken_of m }
 {
-    match m {
-        Measured::Units(x) => Taken::Value(exact::units_value(x)),
-        Measured::Missing => Taken::Missing,
-        Measured::OutOfRange => Taken::OutOfRange,
-    }
+    Ok(exact::units_value(m?))
 }
 
 // Takes a reading that arrives as whole units.
-pub fn take_units(x: i32) -> Taken
+pub fn take_units(x: i32) -> Result<f32, Fault>
     ensures { result ≡ take_units x }
 {
     taken_of(measure_units(x))
 }
 
 // Takes a reading that arrives as a binary32 pattern.
-pub fn take_bits(bits: u32) -> Taken
+pub fn take_bits(bits: u32) -> Result<f32, Fault>
     ensures { result ≡ take_bits bits }
 {
     taken_of(measure_bits(bits))
 }
 
 // One reading of a report, in single precision: as taken X/1024, as decoded s·e/2048, and taken less decoded.
-#[derive(Clone, Copy)]
+#[derive(Clone, Copy, Debug, PartialEq)]
 pub struct Reading {
     pub taken: f32,
     pub decoded: f32,

@@ -2,19 +2,12 @@
 ghost use Rattle.std.specs.Prelude.{◌≡◌, ◌+◌, ◌<◌, ◌≤◌, ◌^◌, nat_abs, ◌*ℤ◌, length};
 ghost use Rattle.readings.specs.Words.{word_at, put_word, measure_at, put_decoded};
 
-// A byte as a word.
-fn wide(x: u8) -> u32
-    ensures { (result ≡ x) × (result < 256) }
-{
-    x as u32
-}
-
 // The word at i.
 pub fn word_at(b: &[u8], i: usize) -> u32
     requires { i + 4 ≤ length b.now }
     ensures { result ≡ word_at b.now i }
 {
-    wide(b[i]) + wide(b[i + 1]) * 256 + wide(b[i + 2]) * 65536 + wide(b[i + 3]) * 16777216
+    u32::from_le_bytes([b[i], b[i + 1], b[i + 2], b[i + 3]])
 }
 
 // Writes the word w at i; every other byte stays.
@@ -22,14 +15,11 @@ pub fn put_word(b: &mut [u8], i: usize, w: u32)
     requires { i + 4 ≤ length b.old }
     ensures { b.new ≡ put_word b.old i w }
 {
-    b[i] = (w % 256) as u8;
-    b[i + 1] = (w / 256 % 256) as u8;
-    b[i + 2] = (w / 65536 % 256) as u8;
-    b[i + 3] = (w / 16777216 % 256) as u8;
+    b[i..i + 4].copy_from_slice(&w.to_le_bytes());
 }
 
 // The reading whose binary32 pattern stands at i.
-pub fn measure_at(b: &[u8], i: usize) -> crate::Measured
+pub fn measure_at(b: &[u8], i: usize) -> Result<i32, crate::Fault>
     requires { i + 4 ≤ length b.now }
     ensures { result ≡ measure_at b.now i }
 {

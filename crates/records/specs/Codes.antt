@@ -1,5 +1,5 @@
 -- Code records: which are good (01, Bytes; When the unit says no).
-use Rattle.std.specs.Prelude.{◌≡◌, cond, List, [], ◌∷◌, ℕ, suc, ◌+◌, ◌*◌, ◌/◌, ◌^◌, ◌<◌, ◌≤◌, ltb, ℤ, nat_abs, length, get_or, take, drop}
+use Rattle.std.specs.Prelude.{◌≡◌, cond, List, [], ◌∷◌, ℕ, suc, ◌+◌, ◌*◌, ◌/◌, ◌^◌, ◌<◌, ◌≤◌, ltb, ℤ, nat_abs, length, get_or, take, drop, Ok, Err}
 use Rattle.integers.specs.Vectors.{«at»}
 use Rattle.coding.specs.Answers.{check_below}
 use Rattle.layers.specs.Digits.{IsCode, cut}
@@ -7,13 +7,11 @@ use Rattle.layers.specs.Layers.{decode}
 use Rattle.layers.specs.Sizes.{Base}
 use Rattle.readings.specs.Words.{word_at}
 use Rattle.refusals.specs.declared.Refusal.TheVariants.{Byte, Record}
-use Rattle.refusals.specs.declared.Verdict.{Verdict}
-use Rattle.refusals.specs.declared.Verdict.TheVariants.{Accepted, Refused}
 use Rattle.refusals.specs.declared.settings.Settings.{Settings}
 use Rattle.refusals.specs.Settings.{Allowed}
 use Rattle.refusals.specs.Steps.{AllowedSteps}
 use Rattle.refusals.specs.Limits.{q_most, m_most, power_most}
-use Rattle.refusals.specs.Verdicts.{unless, first_refusal}
+use Rattle.refusals.specs.Verdicts.{unless, first_refusal, Verdict}
 use Rattle.layers.specs.Code.{Code, size_of}
 use Rattle.records.specs.Frames.{good_record, Framed}
 
@@ -48,17 +46,17 @@ check_frame C least most place b = unless (good_record 1 (block_size C) least mo
 
 -- a block's bytes, the first in the place i: T below the number of steps, each digit below q; else refusal 7 at the first that is not
 abbrev pub check_block : ℕ → ℕ → ℕ → List ℕ → Verdict
-check_block steps q i [] = Accepted
-check_block steps q i (t ∷ ds) = cond (ltb t steps) (check_below q (suc i) ds) (Refused (Byte i))
+check_block steps q i [] = Ok tt
+check_block steps q i (t ∷ ds) = cond (ltb t steps) (check_below q (suc i) ds) (Err (Byte i))
 
 -- blocks of n bytes in turn
 abbrev pub check_blocks : ℕ → ℕ → ℕ → ℕ → List (List ℕ) → Verdict
-check_blocks steps q n i [] = Accepted
+check_blocks steps q n i [] = Ok tt
 check_blocks steps q n i (b ∷ l) = first_refusal (check_block steps q i b ∷ check_blocks steps q n (i + n) l ∷ [])
 
 -- k blocks of n bytes that are accepted, whatever place the first byte has
 abbrev pub AllAccepted : ℕ → ℕ → ℕ → ℕ → List ℕ → Type 0
-AllAccepted steps q n k f = (i : ℕ) → check_blocks steps q n i (cut n k f) ≡ Accepted
+AllAccepted steps q n k f = (i : ℕ) → check_blocks steps q n i (cut n k f) ≡ Ok tt
 
 -- eight numbers, and eight digits of ds from the place a: the first n of r are below neither of theirs
 pub record Raised (top ds : List ℕ) (a n : ℕ) (r : List ℕ) : Type 0 where

@@ -7,7 +7,7 @@ ghost use Rattle.refusals.specs.Limits.{m_most};
 
 use coding::asked;
 use readings::words;
-use refusals::{Refusal, Verdict};
+use refusals::Refusal;
 
 // The bytes of a block of m layers.
 pub fn block_size(m: usize) -> usize
@@ -34,14 +34,14 @@ pub fn step_of(steps: &[i32], b: &[u8]) -> i64
 }
 
 // Refusal 7 in a block whose first byte has the place `first`: T not below the number of steps, or a digit not below q.
-fn check_block(b: &[u8], steps: usize, q: usize, first: usize) -> Verdict
+fn check_block(b: &[u8], steps: usize, q: usize, first: usize) -> Result<(), Refusal>
     requires { (1 ≤ length b.now) × (first + length b.now < 2 ^ 64) }
     ensures { result ≡ check_block steps q first b.now }
 {
     if integers::wide(b[0]) < steps {
         asked::check_below(&b[1..], q, first + 1)
     } else {
-        Verdict::Refused(Refusal::Byte(first))
+        Err(Refusal::Byte(first))
     }
 }
 
@@ -57,33 +57,23 @@ fn raised(top: &[u8; 8], ds: &[u8], at: usize) -> [u8; 8]
     requires { (length top.now ≡ 8) × (at + 8 ≤ length ds.now) }
     ensures { Raised top.now ds.now at 8 result }
 {
-    let mut r: [u8; 8] = [0; 8];
-    let mut i: usize = 0;
-    while i < 8 {
-        r[i] = asked::larger(top[i], ds[at + i]);
-        i = i + 1;
-    }
-    r
+    std::array::from_fn(|i| asked::larger(top[i], ds[at + i]))
 }
 
-// Whether k blocks of m layers have only steps and digits that there are: the greatest digits side by side, and the faults of the first bytes, without a jump for any.
-fn all_below(body: &[u8], k: usize, m: usize, steps: usize, q: usize) -> bool
-    requires { (m ≤ m_most) × (block_bytes 8 m * k ≤ length body.now) }
-    ensures { result ≡ true → AllAccepted steps q (block_bytes 8 m) k body.now }
+// Whether k blocks of M layers have only steps and digits that there are: the greatest digits side by side, and the faults of the first bytes, without a jump for any.
+fn all_below<const M: usize>(body: &[u8], k: usize, steps: usize, q: usize) -> bool
+    requires { (M ≤ m_most) × (block_bytes 8 M * k ≤ length body.now) }
+    ensures { result ≡ true → AllAccepted steps q (block_bytes 8 M) k body.now }
 {
-    let n = block_size(m);
+    let n = block_size(M);
     let mut faults: usize = 0;
     let mut top: [u8; 8] = [0; 8];
-    let mut i: usize = 0;
-    while i < k {
+    for i in 0..k {
         let at = n * i;
-        faults = faults + fault(body[at], steps);
-        let mut j: usize = 0;
-        while j < m {
+        faults += fault(body[at], steps);
+        for j in 0..M {
             top = raised(&top, body, at + 1 + 8 * j);
-            j = j + 1;
         }
-        i = i + 1;
     }
     if faults == 0 {
         (asked::greatest(&top) as usize) < q
@@ -97,40 +87,33 @@ fn all_good(body: &[u8], k: usize, n: usize, steps: usize, q: usize) -> bool
     requires { n * k ≤ length body.now }
     ensures { result ≡ true → AllAccepted steps q n k body.now }
 {
-    if n == 9 {
-        return all_below(body, k, 1, steps, q);
+    match n {
+        9 => all_below::<1>(body, k, steps, q),
+        17 => all_below::<2>(body, k, steps, q),
+        25 => all_below::<3>(body, k, steps, q),
+        33 => all_below::<4>(body, k, steps, q),
+        _ => false,
     }
-    if n == 17 {
-        return all_below(body, k, 2, steps, q);
-    }
-    if n == 25 {
-        return all_below(body, k, 3, steps, q);
-    }
-    if n == 33 {
-        return all_below(body, k, 4, steps, q);
-    }
-    false
 }
 
 // Refusal 7 at the first byte at fault of k blocks of n bytes, the first byte in the place `first`: block by block.
-fn first_fault(body: &[u8], k: usize, n: usize, steps: usize, q: usize, first: usize) -> Verdict
+fn first_fault(
+    body: &[u8],
+    k: usize,
+    n: usize,
+    steps: usize,
+    q: usize,
+    first: usize,
+) -> Result<(), Refusal>
     requires { (1 ≤ n) × (n * k ≤ length body.now) × (first + length body.now < 2 ^ 64) }
     ensures { result ≡ check_blocks steps q n first (cut n k body.now) }
 {
-    let mut i: usize = 0;
-    while i < k {
+    for i in 0..k {
         let at = n * i;
         let end = at + n;
-        match check_block(&body[at..end], steps, q, first + at) {
-            Verdict::Refused(r) => {
-                return Verdict::Refused(r);
-            }
-            Verdict::Accepted => {
-                i = i + 1;
-            }
-        }
+        check_block(&body[at..end], steps, q, first + at)?;
     }
-    Verdict::Accepted
+    Ok(())
 }
 
 // The same, at a glance where every byte is good, as in most records.
@@ -141,12 +124,12 @@ pub fn check_blocks(
     steps: usize,
     q: usize,
     first: usize,
-) -> Verdict
+) -> Result<(), Refusal>
     requires { (1 ≤ n) × (n * k ≤ length body.now) × (first + length body.now < 2 ^ 64) }
     ensures { result ≡ check_blocks steps q n first (cut n k body.now) }
 {
     if all_good(body, k, n, steps, q) {
-        return Verdict::Accepted;
+        return Ok(());
     }
     first_fault(body, k, n, steps, q, first)
 }

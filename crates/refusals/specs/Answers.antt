@@ -1,15 +1,18 @@
 -- Answers whose value is one number, and lent room afterwards (01, When the unit says no).
-use Rattle.std.specs.Prelude.{List, ◌++◌, ℤ, pos, length, drop}
-use Rattle.refusals.specs.declared.Answer.{Answer}
-use Rattle.refusals.specs.declared.Verdict.{Verdict}
-use Rattle.refusals.specs.declared.Verdict.TheVariants.{Accepted, Refused}
+use Rattle.std.specs.Prelude.{List, ◌++◌, ℤ, length, drop, Result, Ok, Err}
+use Rattle.refusals.specs.declared.Refusal.{Refusal}
+use Rattle.refusals.specs.Verdicts.{Verdict}
 
--- the value where the verdict accepts, 0 where it refuses
-abbrev pub valued : Verdict → ℤ → Answer
-valued Accepted z = record { verdict = Accepted; value = z }
-valued (Refused r) z = record { verdict = Refused r; value = pos 0 }
+-- what an operation answers whose value is one number
+abbrev pub Answer : Type 0
+Answer = Result ℤ Refusal
+
+-- the value where the verdict accepts, else the refusal
+abbrev pub valued : {A : Type 0} → Verdict → A → Result A Refusal
+valued (Ok u) z = Ok z
+valued (Err r) z = Err r
 
 -- lent bytes or entries afterwards: f at their front and the rest as found; where it is refused, all as found
 abbrev pub written : {A : Type 0} → Verdict → List A → List A → List A
-written Accepted f out = f ++ drop (length f) out
-written (Refused r) f out = out
+written (Ok u) f out = f ++ drop (length f) out
+written (Err r) f out = out

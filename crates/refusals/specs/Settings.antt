@@ -2,10 +2,9 @@
 use Rattle.std.specs.Prelude.{◌≡◌, Bool, ◌&&◌, ◌^◌, ◌≤◌, leb, ℤ, pos, nat_abs}
 use Rattle.refusals.specs.declared.settings.Settings.{Settings as Chosen}
 use Rattle.refusals.specs.declared.Refusal.TheVariants.{Settings}
-use Rattle.refusals.specs.declared.Verdict.{Verdict}
 use Rattle.integers.specs.Vectors.{within}
 use Rattle.refusals.specs.Limits.{q_least, q_most, m_least, m_most, power_most}
-use Rattle.refusals.specs.Verdicts.{unless}
+use Rattle.refusals.specs.Verdicts.{unless, Verdict}
 
 -- q from 2 to 16, M from 1 to 4, q^M at most 4096
 unfoldable pub good_settings : ℤ → ℤ → Bool

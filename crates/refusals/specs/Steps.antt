@@ -3,9 +3,8 @@ use Rattle.std.specs.Prelude.{Bool, true, ◌&&◌, List, [], ◌∷◌, ℕ, �
 use Rattle.std.specs.Int.Signed.{le_z, lt_z}
 use Rattle.integers.specs.Vectors.{«at»}
 use Rattle.refusals.specs.declared.Refusal.TheVariants.{Steps}
-use Rattle.refusals.specs.declared.Verdict.{Verdict}
 use Rattle.refusals.specs.Limits.{steps_most, step_most}
-use Rattle.refusals.specs.Verdicts.{unless}
+use Rattle.refusals.specs.Verdicts.{unless, Verdict}
 
 -- every step above the one before, and none past 1024
 abbrev pub rising : ℤ → List ℤ → Bool

@@ -4,13 +4,11 @@
 pub mod settings;
 pub mod steps;
 
-ghost use Rattle.std.specs.Prelude.{◌≡◌, pos};
-ghost use Rattle.refusals.specs.Answers.{valued};
-ghost use Rattle.refusals.specs.Verdicts.{number_of, place_of};
-ghost use Rattle.refusals.specs.declared.Verdict.TheVariants.{Refused};
+ghost use Rattle.std.specs.Prelude.{◌≡◌};
+ghost use Rattle.refusals.specs.Verdicts.{row_of, spot_of, number_of, place_of};
 
 // A name for each row of 01's table. What it carries is its place.
-#[derive(Clone, Copy)]
+#[derive(Clone, Copy, Debug, PartialEq, Eq)]
 pub enum Refusal {
     // 1: q, M or q^M outside limits.
     Settings,
@@ -36,20 +34,12 @@ pub enum Refusal {
     EmptyStore,
 }
 
-// What a check answers.
-#[derive(Clone, Copy)]
-pub enum Verdict {
-    Accepted,
-    Refused(Refusal),
-}
-
-// The number of a refusal's row, 0 where nothing is refused.
-pub fn number_of(v: Verdict) -> usize
-    ensures { result ≡ number_of v }
-{
-    match v {
-        Verdict::Accepted => 0,
-        Verdict::Refused(r) => match r {
+impl Refusal {
+    // The number of its row.
+    pub fn number(self) -> usize
+        ensures { result ≡ row_of self }
+    {
+        match self {
             Refusal::Settings => 1,
             Refusal::Steps(_) => 2,
             Refusal::Size(_) => 3,
@@ -61,17 +51,14 @@ pub fn number_of(v: Verdict) -> usize
             Refusal::Point => 9,
             Refusal::Record(_) => 10,
             Refusal::EmptyStore => 11,
-        },
+        }
     }
-}
 
-// The place of a refusal, 0 where its row has none and where nothing is refused.
-pub fn place_of(v: Verdict) -> usize
-    ensures { result ≡ place_of v }
-{
-    match v {
-        Verdict::Accepted => 0,
-        Verdict::Refused(r) => match r {
+    // The place that it names, 0 where its row has none.
+    pub fn place(self) -> usize
+        ensures { result ≡ spot_of self }
+    {
+        match self {
             Refusal::Settings => 0,
             Refusal::Steps(p) => p,
             Refusal::Size(p) => p,
@@ -83,23 +70,20 @@ pub fn place_of(v: Verdict) -> usize
             Refusal::Point => 0,
             Refusal::Record(p) => p,
             Refusal::EmptyStore => 0,
-        },
+        }
     }
 }
 
-// What an operation answers whose value is one number: it is 0 where the operation is refused.
-#[derive(Clone, Copy)]
-pub struct Answer {
-    pub verdict: Verdict,
-    pub value: i64,
-}
-
-// The answer of a refusal: no value.
-pub fn refused(r: Refusal) -> Answer
-    ensures { result ≡ valued (Refused r) (pos 0) }
+// The number of an answer: 0 where nothing is refused.
+pub fn number_of<T: Copy>(v: Result<T, Refusal>) -> usize
+    ensures { result ≡ number_of v }
 {
-    Answer {
-        verdict: Verdict::Refused(r),
-        value: 0,
-    }
+    v.map_or_else(Refusal::number, |_| 0)
+}
+
+// Its place, 0 where nothing is refused.
+pub fn place_of<T: Copy>(v: Result<T, Refusal>) -> usize
+    ensures { result ≡ place_of v }
+{
+    v.map_or_else(Refusal::place, |_| 0)
 }

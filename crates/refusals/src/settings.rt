@@ -2,7 +2,7 @@
 ghost use Rattle.std.specs.Prelude.{◌≡◌, nat_abs};
 ghost use Rattle.refusals.specs.Settings.{good_settings, check_settings, Allowed};
 
-use crate::{Refusal, Verdict};
+use crate::Refusal;
 
 pub const Q_LEAST: i32 = 2;
 
@@ -15,7 +15,7 @@ pub const M_MOST: i32 = 4;
 pub const POWER_MOST: u64 = 4096;
 
 // q and M, in a type that can hold a wrong value, so that a wrong one is refused and never wrapped.
-#[derive(Clone, Copy)]
+#[derive(Clone, Copy, Debug, PartialEq, Eq)]
 pub struct Settings {
     pub q: i32,
     pub m: i32,
@@ -37,13 +37,13 @@ fn good_settings(q: i32, m: i32) -> bool
 }
 
 // Refusal 1 where they are not.
-pub fn check_settings(s: Settings) -> Verdict
+pub fn check_settings(s: Settings) -> Result<(), Refusal>
     ensures { result ≡ check_settings s }
 {
     if good_settings(s.q, s.m) {
-        Verdict::Accepted
+        Ok(())
     } else {
-        Verdict::Refused(Refusal::Settings)
+        Err(Refusal::Settings)
     }
 }
 

@@ -2,7 +2,7 @@
 ghost use Rattle.std.specs.Prelude.{◌≡◌, pos};
 ghost use Rattle.refusals.specs.Steps.{rising, good_steps, check_steps};
 
-use crate::{Refusal, Verdict};
+use crate::Refusal;
 
 pub const STEPS_MOST: usize = 4;
 
@@ -13,17 +13,14 @@ fn rising(steps: &[i32]) -> bool
     ensures { result ≡ rising (pos 0) steps.now }
 {
     let mut last: i32 = 0;
-    let mut i: usize = 0;
-    while i < steps.len() {
-        let s = steps[i];
-        if s <= last {
+    for s in steps {
+        if *s <= last {
             return false;
         }
-        if s > STEP_MOST {
+        if *s > STEP_MOST {
             return false;
         }
-        last = s;
-        i = i + 1;
+        last = *s;
     }
     true
 }
@@ -44,12 +41,12 @@ fn good_steps(steps: &[i32]) -> bool
 }
 
 // Refusal 2, with the place of the list, where it does not.
-pub fn check_steps(place: usize, steps: &[i32]) -> Verdict
+pub fn check_steps(place: usize, steps: &[i32]) -> Result<(), Refusal>
     ensures { result ≡ check_steps place steps.now }
 {
     if good_steps(steps) {
-        Verdict::Accepted
+        Ok(())
     } else {
-        Verdict::Refused(Refusal::Steps(place))
+        Err(Refusal::Steps(place))
     }
 }

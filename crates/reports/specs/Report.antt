@@ -1,18 +1,17 @@
 -- The report on one block (01, Layers and steps).
-use Rattle.std.specs.Prelude.{◌≡◌, List, [], ◌∷◌, map, ℕ, ◌<◌, eqb, ℤ, pos, nat_abs, length, replicate}
+use Rattle.std.specs.Prelude.{◌≡◌, List, [], ◌∷◌, map, ℕ, ◌<◌, eqb, ℤ, pos, nat_abs, length, replicate, Result}
 use Rattle.blocks.specs.Trials.{block_code}
 use Rattle.integers.specs.Vectors.{«at», range}
 use Rattle.layers.specs.E8.{e8, nearest}
 use Rattle.readings.specs.declared.Reading.{Reading}
 use Rattle.readings.specs.Report.{Reportable, report_reading}
 use Rattle.refusals.specs.declared.settings.Settings.{Settings}
+use Rattle.refusals.specs.declared.Refusal.{Refusal}
 use Rattle.refusals.specs.declared.Refusal.TheVariants.{Size}
-use Rattle.refusals.specs.declared.Verdict.{Verdict}
-use Rattle.refusals.specs.declared.Verdict.TheVariants.{Accepted, Refused}
+use Rattle.refusals.specs.Answers.{valued}
 use Rattle.refusals.specs.Settings.{check_settings}
 use Rattle.refusals.specs.Steps.{check_steps}
-use Rattle.refusals.specs.Verdicts.{unless, first_refusal}
-use Rattle.reports.specs.declared.ReportAnswer.{ReportAnswer}
+use Rattle.refusals.specs.Verdicts.{unless, first_refusal, Verdict}
 use Rattle.records.specs.Eight.Codes.{step_of, whole_point}
 use Rattle.layers.specs.Code.{code8}
 use Rattle.encoding.specs.Encode.{check_fits}
@@ -31,14 +30,17 @@ reading_reports X s e = map (λ (i : ℕ). report_reading («at» X i) s («at»
 abbrev pub block_report : ℕ → ℕ → List ℤ → List ℤ → List Reading
 block_report q m steps X = let b = block_code e8 nearest q m steps X in reading_reports X (step_of steps b) (whole_point q m b)
 
+-- what a report answers
+abbrev pub ReportAnswer : Type 0
+ReportAnswer = Result (List Reading) Refusal
+
+-- the eight where the verdict accepts, else the refusal
+abbrev pub reported : Verdict → List Reading → ReportAnswer
+reported = valued
+
 -- +0.0 throughout
 abbrev pub no_readings : List Reading
 no_readings = replicate 8 (report_reading (pos 0) (pos 0) (pos 0))
-
--- the eight where the verdict accepts, none where it refuses
-abbrev pub reported : Verdict → List Reading → ReportAnswer
-reported Accepted l = record { verdict = Accepted; readings = l }
-reported (Refused r) l = record { verdict = Refused r; readings = no_readings }
 
 -- the whole answer
 unfoldable pub report : Settings → List ℤ → List ℤ → ReportAnswer

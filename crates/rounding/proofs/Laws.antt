@@ -7,3 +7,4 @@ pub mod Lowered
 pub mod Scans
 pub mod Mended
 pub mod Choice
+pub mod Passes

@@ -45,6 +45,17 @@ pub record Divisor (s : ℤ) : Type 0 where
   pub least : pos 1 ≤ℤ s
   pub most : nat_abs s ≤ 16384
 
+-- a divisor up to S
+pub record Step (S : ℕ) (s : ℤ) : Type 0 where
+  pub least : pos 1 ≤ℤ s
+  pub most : nat_abs s ≤ S
+
+-- numbers up to M and counts up to K have room for a pass of divisors up to S and roundings up to W, and for what it compares
+pub record Room (S W M K : ℕ) : Type 0 where
+  pub keys : 9 * (16 * S + 15) ≤ K
+  pub sums : 9 * W + 9 * (16 * S + 15) ≤ M
+  pub squares : 112 * (S * S) + 1 ≤ M
+
 -- 2^31 over s, rounded down
 abbrev pub reciprocal : ℤ → ℕ
 reciprocal s = 2147483648 / nat_abs s

@@ -1,6 +1,9 @@
 // One coordinate: rounded to the nearest multiple of 2s, what that leaves, and the key that orders what is left.
-ghost use Rattle.std.specs.Prelude.{◌≡◌, cond, ◌^◌, ◌≤◌, ◌<◌, max, pos, nat_abs, ◌*ℤ◌};
+ghost use Rattle.std.specs.Prelude.{◌≡◌, cond, ◌+◌, ◌*◌, ◌^◌, ◌≤◌, ◌<◌, min, max, pos, nat_abs, ◌*ℤ◌};
+ghost use Rattle.std.specs.Int.Signed.{lt_z};
 ghost use Rattle.rounding.specs.Rounding.{Divisor, reciprocal, rounded, sign, lowered, key, spot};
+
+use crate::number::{Count, Number};
 
 // A coordinate rounded, and what that leaves of it.
 #[derive(Clone, Copy)]
@@ -35,51 +38,65 @@ pub(crate) fn round(x: i64, s: i64, w: i64) -> Rounded
     }
 }
 
-// 1 where more than nothing is left, else -1: the way from the rounding to the input, down where they meet.
-pub(crate) fn sign(x: i64) -> i64
-    ensures { result ≡ sign x }
+// Whether more than nothing is left.
+pub(crate) fn positive<T: Number>(x: T) -> bool
+    ensures { result ≡ lt_z (pos 0) (T.value x) }
 {
-    if x > 0 { 1 } else { -1 }
+    x > T::of(0)
+}
+
+// 1 where more than nothing is left, else -1: the way from the rounding to the input, down where they meet.
+pub fn sign<T: Number>(x: T) -> T
+    ensures { T.value result ≡ sign (T.value x) }
+{
+    if positive(x) { T::of(1) } else { T::of(-1) }
 }
 
 // What the odd half leaves of a coordinate of which the even half leaves x.
-pub(crate) fn lowered(x: i64, s: i64) -> i64
-    requires { (nat_abs x ≤ 2 ^ 14) × Divisor s }
-    ensures { result ≡ lowered s x }
+pub fn lowered<T: Number>(x: T, s: T) -> T
+    requires { nat_abs (T.value x) + nat_abs (T.value s) ≤ T.most }
+    ensures { T.value result ≡ lowered (T.value s) (T.value x) }
 {
-    if x > 0 { x - s } else { x + s }
+    if positive(x) { x - s } else { x + s }
 }
 
 // The size first; then those that go down, the first of them; then the last of those that go up.
-pub(crate) fn key(x: i64, i: usize) -> usize
-    requires { (nat_abs x ≤ 2 ^ 14) × (i < 8) }
-    ensures { result ≡ key i x }
+pub(crate) fn key<T: Number>(x: T, i: usize) -> T::Key
+    requires { (16 * nat_abs (T.value x) + 22 ≤ T.most) × (i < 8) }
+    ensures { T.Key.count result ≡ key i (T.value x) }
 {
-    let b = 16 * x + i as i64;
-    if b <= 7 {
-        (15 - b) as usize
+    let b = T::of(16) * x + T::of(i as i8);
+    if b <= T::of(7) {
+        (T::of(15) - b).key()
     } else {
-        b as usize
+        b.key()
     }
 }
 
 // The greater of two keys.
-pub(crate) fn greater(a: usize, b: usize) -> usize
-    ensures { result ≡ max a b }
+pub(crate) fn greater<K: Count>(a: K, b: K) -> K
+    ensures { K.count result ≡ max (K.count a) (K.count b) }
 {
     if a < b { b } else { a }
 }
 
-// The entry that a key is of.
-pub(crate) fn spot(k: usize) -> usize
-    ensures { result ≡ spot k }
+// The smaller of two keys.
+pub(crate) fn smaller<K: Count>(a: K, b: K) -> K
+    ensures { K.count result ≡ min (K.count a) (K.count b) }
 {
-    let l = k % 16;
-    if l < 8 { l } else { 15 - l }
+    if a < b { a } else { b }
 }
 
-// The first of two numbers, or the second: a value and no jump.
-pub(crate) fn either(first: bool, x: i64, y: i64) -> i64
+// The entry that a key is of.
+pub(crate) fn spot<K: Count>(k: K) -> K
+    ensures { K.count result ≡ spot (K.count k) }
+{
+    let l = k % K::of(16);
+    if l < K::of(8) { l } else { K::of(15) - l }
+}
+
+// The first of two values, or the second: a value and no jump.
+pub fn either<A: Copy>(first: bool, x: A, y: A) -> A
     ensures { result ≡ cond first x y }
 {
     if first { x } else { y }

@@ -5,14 +5,12 @@ use Rattle.integers.specs.Vectors.{dot, Sized}
 use Rattle.layers.specs.Code.{Code, size_of}
 use Rattle.records.specs.Codes.{block_size, blocks_in, code_blocks, check_frame, check_blocks, step_of, whole_point}
 use Rattle.records.specs.Vectors.{Hour, check_readings, units_taken, blocks_of, in_blocks}
-use Rattle.refusals.specs.declared.Answer.{Answer}
 use Rattle.refusals.specs.declared.settings.Settings.{Settings}
-use Rattle.refusals.specs.declared.Verdict.{Verdict}
-use Rattle.refusals.specs.Answers.{valued}
+use Rattle.refusals.specs.Answers.{valued, Answer}
 use Rattle.refusals.specs.Limits.{blocks_most}
 use Rattle.refusals.specs.Settings.{check_settings}
 use Rattle.refusals.specs.Steps.{check_steps, AllowedSteps}
-use Rattle.refusals.specs.Verdicts.{first_refusal}
+use Rattle.refusals.specs.Verdicts.{first_refusal, Verdict}
 
 -- f of the first of each list, of the second of each, and so on, together
 abbrev pub total : {A B : Type 0} → (A → B → ℤ) → List A → List B → ℤ

@@ -7,7 +7,7 @@ ghost use Rattle.refusals.specs.Verdicts.{first_refusal};
 ghost use Rattle.scores.specs.Scores.{check_code};
 
 use records::{codes, frames};
-use refusals::{Refusal, Verdict};
+use refusals::Refusal;
 
 // Refusal 10 at `place` unless the record is K blocks, K from least to most, then 7, the first byte after the dimension in the place `first`.
 pub fn check_code(
@@ -19,7 +19,7 @@ pub fn check_code(
     most: usize,
     place: usize,
     first: usize,
-) -> Verdict
+) -> Result<(), Refusal>
     requires { (m ≤ 256) × (first + length b.now < 2 ^ 64) }
     ensures { result ≡ check_code steps (code8 q m) least most place first b.now }
 {
@@ -28,7 +28,7 @@ pub fn check_code(
         let k = codes::blocks_in(b, m);
         codes::check_blocks(&b[4..], k, size, steps, q, first)
     } else {
-        Verdict::Refused(Refusal::Record(place))
+        Err(Refusal::Record(place))
     }
 }
 
@@ -40,15 +40,11 @@ pub fn check_codes(
     steps2: usize,
     q: usize,
     m: usize,
-) -> Verdict
+) -> Result<(), Refusal>
     requires { m ≤ 256 }
     ensures { result ≡ first_refusal (check_code steps (code8 q m) 1 blocks_most 0 0 code.now ∷ check_code steps2 (code8 q m) (blocks_in (code8 q m) code.now) (blocks_in (code8 q m) code.now) 0 0 code2.now ∷ []) }
 {
-    match check_code(code, steps, q, m, 1, frames::BLOCKS_MOST, 0, 0) {
-        Verdict::Refused(r) => Verdict::Refused(r),
-        Verdict::Accepted => {
-            let k = codes::blocks_in(code, m);
-            check_code(code2, steps2, q, m, k, k, 0, 0)
-        }
-    }
+    check_code(code, steps, q, m, 1, frames::BLOCKS_MOST, 0, 0)?;
+    let k = codes::blocks_in(code, m);
+    check_code(code2, steps2, q, m, k, k, 0, 0)
 }

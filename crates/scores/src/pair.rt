@@ -10,7 +10,7 @@ use crate::{codes, inner};
 use layers::table;
 use records::asked;
 use refusals::settings::Settings;
-use refusals::{Answer, Verdict, settings};
+use refusals::{Refusal, settings};
 
 // Two coded blocks, whose points are e and f: s·t times the inner product of their points.
 fn block_pair(steps: &[i32], b: &[u8], e: &[i16; 8], steps2: &[i32], b2: &[u8], f: &[i16; 8]) -> i64
@@ -36,26 +36,16 @@ pub fn pair_total(
     requires { TableFor (nat_abs q) t.now × Coder q m steps.now × Coder q m steps2.now × AreBlocks (length steps.now) (code8 (nat_abs q) m) k body.now × AreBlocks (length steps2.now) (code8 (nat_abs q) m) k body2.now × (k ≤ 64) }
     ensures { result ≡ total (block_pair (code8 (nat_abs q) m) steps.now steps2.now) (cut (block_bytes 8 m) k body.now) (cut (block_bytes 8 m) k body2.now) }
 {
-    let mut rows: [[i16; 8]; 64] = [[0; 8]; 64];
-    let mut rows2: [[i16; 8]; 64] = [[0; 8]; 64];
+    let mut rows = [[0; 8]; 64];
+    let mut rows2 = [[0; 8]; 64];
     points::whole_points(t, body, q, m, k, &mut rows);
     points::whole_points(t, body2, q, m, k, &mut rows2);
     let n = records::codes::block_size(m);
-    let mut z: i64 = 0;
-    let mut i: usize = 0;
-    while i < k {
-        let at = n * i;
-        let end = at + n;
-        z = z
-            + block_pair(
-                steps,
-                &body[at..end],
-                &rows[i],
-                steps2,
-                &body2[at..end],
-                &rows2[i],
-            );
-        i = i + 1;
+    let mut z = 0;
+    for i in 0..k {
+        let b = inner::part(body, n, i);
+        let b2 = inner::part(body2, n, i);
+        z += block_pair(steps, b, &rows[i], steps2, b2, &rows2[i]);
     }
     z
 }
@@ -73,44 +63,44 @@ fn pair_body(
     requires { Coder q m steps.now × Coder q m steps2.now × AreBlocks (length steps.now) (code8 (nat_abs q) m) k body.now × AreBlocks (length steps2.now) (code8 (nat_abs q) m) k body2.now × (k ≤ 64) }
     ensures { result ≡ total (block_pair (code8 (nat_abs q) m) steps.now steps2.now) (cut (block_bytes 8 m) k body.now) (cut (block_bytes 8 m) k body2.now) }
 {
+    let total = |t: &[i8]| pair_total(t, steps, body, steps2, body2, q, m, k);
     if q == 2 {
-        pair_total(&table::layer_points(), steps, body, steps2, body2, q, m, k)
+        total(&table::layer_points())
     } else {
-        pair_total(&[0; 1], steps, body, steps2, body2, q, m, k)
+        total(&[])
     }
 }
 
 // Refusals 1, then 2 for the first list and for the second, then the first record whole, then the second.
-fn check_pair(s: Settings, steps: &[i32], code: &[u8], steps2: &[i32], code2: &[u8]) -> Verdict
+fn check_pair(
+    s: Settings,
+    steps: &[i32],
+    code: &[u8],
+    steps2: &[i32],
+    code2: &[u8],
+) -> Result<(), Refusal>
     ensures { result ≡ check_pair (code_of s) s steps.now code.now steps2.now code2.now }
 {
-    match asked::check_coder(s, steps) {
-        Verdict::Refused(r) => Verdict::Refused(r),
-        Verdict::Accepted => match refusals::steps::check_steps(1, steps2) {
-            Verdict::Refused(r) => Verdict::Refused(r),
-            Verdict::Accepted => {
-                let q = settings::digit_values(s);
-                let m = settings::layers(s);
-                codes::check_codes(code, steps.len(), code2, steps2.len(), q, m)
-            }
-        },
-    }
+    asked::check_coder(s, steps)?;
+    refusals::steps::check_steps(1, steps2)?;
+    let q = settings::digit_values(s);
+    let m = settings::layers(s);
+    codes::check_codes(code, steps.len(), code2, steps2.len(), q, m)
 }
 
 // The score of two code records.
-pub fn pair_score(s: Settings, steps: &[i32], code: &[u8], steps2: &[i32], code2: &[u8]) -> Answer
+pub fn pair_score(
+    s: Settings,
+    steps: &[i32],
+    code: &[u8],
+    steps2: &[i32],
+    code2: &[u8],
+) -> Result<i64, Refusal>
     ensures answer { result ≡ pair_score (code_of s) s steps.now code.now steps2.now code2.now }
 {
-    match check_pair(s, steps, code, steps2, code2) {
-        Verdict::Refused(r) => refusals::refused(r),
-        Verdict::Accepted => {
-            let q = settings::base(s);
-            let m = settings::layers(s);
-            let k = records::codes::blocks_in(code, m);
-            Answer {
-                verdict: Verdict::Accepted,
-                value: pair_body(steps, &code[4..], steps2, &code2[4..], q, m, k),
-            }
-        }
-    }
+    check_pair(s, steps, code, steps2, code2)?;
+    let q = settings::base(s);
+    let m = settings::layers(s);
+    let k = records::codes::blocks_in(code, m);
+    Ok(pair_body(steps, &code[4..], steps2, &code2[4..], q, m, k))
 }

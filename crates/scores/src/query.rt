@@ -14,7 +14,7 @@ use layers::table;
 use readings::words;
 use records::codes;
 use refusals::settings::Settings;
-use refusals::{Answer, Verdict, settings};
+use refusals::{Refusal, settings};
 
 // Eight readings and a coded block, whose point is e: s times the sum of X_i·e_i.
 fn block_query(steps: &[i32], x: &[i32], b: &[u8], e: &[i16; 8]) -> i64
@@ -41,15 +41,10 @@ fn table_total(
 {
     points::whole_points(t, body, q, m, k, rows);
     let n = codes::block_size(m);
-    let mut z: i64 = 0;
-    let mut i: usize = 0;
-    while i < k {
-        let from = 8 * i;
-        let to = from + 8;
-        let at = n * i;
-        let end = at + n;
-        z = z + block_query(steps, &x[from..to], &body[at..end], &rows[i]);
-        i = i + 1;
+    let mut z = 0;
+    for i in 0..k {
+        let b = inner::part(body, n, i);
+        z += block_query(steps, inner::part(x, 8, i), b, &rows[i]);
     }
     z
 }
@@ -60,19 +55,15 @@ fn ruled_total(steps: &[i32], x: &[i32], body: &[u8], q: i64, m: usize, k: usize
     ensures { result ≡ total (block_query (code8 (nat_abs q) m) steps.now) (cut 8 k x.now) (cut (block_bytes 8 m) k body.now) }
 {
     let n = codes::block_size(m);
-    let mut e: [[i16; 8]; 8] = [[0; 8]; 8];
-    let mut z: i64 = 0;
-    let mut i: usize = 0;
-    while i < k {
-        let from = 8 * i;
-        let to = from + 8;
-        let at = n * i;
-        let end = at + n;
+    let mut e = [[0; 8]; 8];
+    let mut z = 0;
+    for i in 0..k {
         if i % 8 == 0 {
-            e = points::eight_points(&body[at..], integers::smaller(8, k - i), q as i16, m);
+            e = points::eight_points(&body[n * i..], (k - i).min(8), q as i16, m);
         }
-        z = z + codes::step_of(steps, &body[at..end]) * inner::column_dot(&x[from..to], &e, i % 8);
-        i = i + 1;
+        let b = inner::part(body, n, i);
+        let p = inner::column(&e, i % 8);
+        z += block_query(steps, inner::part(x, 8, i), b, &p);
     }
     z
 }
@@ -99,55 +90,44 @@ pub fn query_total(
     }
 }
 
-// The same, having the table itself and the rows, once for all blocks.
+// The same, with a table and rows of its own where they are used.
 fn query_body(steps: &[i32], x: &[i32], body: &[u8], q: i64, m: usize, k: usize) -> i64
     requires { Coder q m steps.now × Sized (8 * k) (2 ^ 24) x.now × AreBlocks (length steps.now) (code8 (nat_abs q) m) k body.now × (k ≤ 64) }
     ensures { result ≡ total (block_query (code8 (nat_abs q) m) steps.now) (cut 8 k x.now) (cut (block_bytes 8 m) k body.now) }
 {
-    let mut rows: [[i16; 8]; 64] = [[0; 8]; 64];
     if q == 2 {
-        query_total(&table::layer_points(), steps, x, body, q, m, k, &mut rows)
+        let t = table::layer_points();
+        table_total(&t, steps, x, body, q, m, k, &mut [[0; 8]; 64])
     } else {
-        query_total(&[0; 1], steps, x, body, q, m, k, &mut rows)
+        ruled_total(steps, x, body, q, m, k)
     }
 }
 
 // The core on X: the record is checked, with as many blocks as there are of X, then scored.
-fn score_units(s: Settings, steps: &[i32], x: &[i32], code: &[u8]) -> Answer
+fn score_units(s: Settings, steps: &[i32], x: &[i32], code: &[u8]) -> Result<i64, Refusal>
     requires { CoderTaken s steps.now × UnitsTaken (size_of (code_of s)) x.now }
     ensures { result ≡ valued (check_code (length steps.now) (code_of s) (length x.now / size_of (code_of s)) (length x.now / size_of (code_of s)) 0 0 code.now) (query_total (code_of s) steps.now x.now code.now) }
 {
     let k = x.len() / 8;
     let m = settings::layers(s);
-    match crate::codes::check_code(code, steps.len(), settings::digit_values(s), m, k, k, 0, 0) {
-        Verdict::Refused(r) => refusals::refused(r),
-        Verdict::Accepted => Answer {
-            verdict: Verdict::Accepted,
-            value: query_body(steps, x, &code[4..], settings::base(s), m, k),
-        },
-    }
+    crate::codes::check_code(code, steps.len(), settings::digit_values(s), m, k, k, 0, 0)?;
+    Ok(query_body(steps, x, &code[4..], settings::base(s), m, k))
 }
 
 // The score of an hour in whole units against a code record.
-pub fn query_score_units(s: Settings, steps: &[i32], x: &[i32], code: &[u8]) -> Answer
+pub fn query_score_units(s: Settings, steps: &[i32], x: &[i32], code: &[u8]) -> Result<i64, Refusal>
     ensures answer { result ≡ query_score (code_of s) s steps.now (units_hour (size_of (code_of s)) x.now) code.now }
 {
-    match hours::check_units_hour(s, steps, x) {
-        Verdict::Refused(r) => refusals::refused(r),
-        Verdict::Accepted => score_units(s, steps, x, code),
-    }
+    hours::check_units_hour(s, steps, x)?;
+    score_units(s, steps, x, code)
 }
 
 // The score of an hour that is an fvecs record.
-pub fn query_score(s: Settings, steps: &[i32], query: &[u8], code: &[u8]) -> Answer
+pub fn query_score(s: Settings, steps: &[i32], query: &[u8], code: &[u8]) -> Result<i64, Refusal>
     ensures answer { result ≡ query_score (code_of s) s steps.now (fvecs_hour (size_of (code_of s)) query.now) code.now }
 {
     let mut x: [i32; hours::READINGS_MOST] = [0; hours::READINGS_MOST];
-    match hours::take_fvecs_hour(s, steps, query, &mut x) {
-        Verdict::Refused(r) => refusals::refused(r),
-        Verdict::Accepted => {
-            let n = words::word_at(query, 0) as usize;
-            score_units(s, steps, &x[0..n], code)
-        }
-    }
+    hours::take_fvecs_hour(s, steps, query, &mut x)?;
+    let n = words::word_at(query, 0) as usize;
+    score_units(s, steps, &x[0..n], code)
 }

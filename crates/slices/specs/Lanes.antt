@@ -4,7 +4,7 @@ use Rattle.integers.specs.Vectors.{«at»}
 use Rattle.columns.specs.Columns.{column, Grid}
 use Rattle.columns.specs.Narrow.{Part, brief, scanned_from}
 use Rattle.layers.specs.Digits.{digits_of}
-use Rattle.rounding.specs.declared.half.Scan.{Scan}
+use Rattle.rounding.specs.Pass.{Scan}
 use Rattle.rounding.specs.Pass.{chosen}
 use Rattle.rounding.specs.Rounding.{sign}
 use Rattle.slices.specs.Slices.{rounds_of, rests_of, code_of, merge, low_digits, high_digits}

@@ -2,11 +2,11 @@
 use Rattle.std.specs.Prelude.{◌≡◌, List, [], ◌∷◌, ◌++◌, map, ℕ, ◌+◌, ◌*◌, ◌/◌, ◌%◌, ◌^◌, ◌<◌, ◌≤◌, min, max, ℤ, pos, nat_abs, ◌+ℤ◌, ◌-ℤ◌, ◌*ℤ◌, length, get_or, take, drop}
 use Rattle.integers.specs.Vectors.{«at», dot, Sized}
 use Rattle.lattice.specs.Basis.{point_of}
-use Rattle.columns.specs.declared.narrow.Choice.{Choice}
+use Rattle.rounding.specs.Pass.{Choice}
 use Rattle.columns.specs.Narrow.{brief, left_by}
 use Rattle.layers.specs.Digits.{digits_of}
 use Rattle.layers.specs.Sizes.{Base}
-use Rattle.rounding.specs.declared.half.Scan.{Scan}
+use Rattle.rounding.specs.Pass.{Scan}
 use Rattle.rounding.specs.Pass.{scanned, chosen}
 use Rattle.rounding.specs.Rounding.{round, left, sign}
 

@@ -8,6 +8,7 @@ ghost use Rattle.rounding.specs.Pass.{chosen};
 ghost use Rattle.slices.specs.Lanes.{lane_of, scan_of, Whole, LanePut, Lows, Lanes, Run, RunPut};
 ghost use Rattle.slices.specs.Slices.{Slice, rounds_of, rests_of, low_digits, high_digits, merge, code_of};
 
+use crate::Halves;
 use coding::counting;
 use columns::narrow;
 use columns::narrow::Scan;
@@ -44,8 +45,8 @@ fn merged(a: Scan, b: Scan) -> Scan
     ensures { wide result ≡ merge (wide a) (wide b) }
 {
     Scan {
-        most: if a.most < b.most { b.most } else { a.most },
-        least: if a.least < b.least { a.least } else { b.least },
+        most: a.most.max(b.most),
+        least: a.least.min(b.least),
         keys: a.keys + b.keys,
         sum: a.sum + b.sum,
         even: a.even + b.even,
@@ -83,10 +84,8 @@ fn put_lane(lanes: &mut [[i16; 256]; 7], t: usize, l: &[i16; 7])
     requires { Grid 7 256 lanes.old × (t < 256) × (length l.now ≡ 7) }
     ensures { LanePut t l.now lanes.old lanes.new }
 {
-    let mut j: usize = 0;
-    while j < 7 {
+    for j in 0..7 {
         lanes[j][t] = l[j];
-        j = j + 1;
     }
 }
 
@@ -113,14 +112,12 @@ fn fill_lows(q: i16, last: u8, n: usize, lanes: &mut [[i16; 256]; 7], lows: &mut
     let mut ds: [u8; 4] = [0; 4];
     let mut f: [i16; 8] = [0; 8];
     let mut a: [i16; 8] = [0; 8];
-    let mut t: usize = 0;
-    while t < n {
+    for t in 0..n {
         round_digits(&low_digits(&ds, last), q, &mut f, &mut a);
         let c = narrow::scanned(&f, &a, q, 0, 3);
         put_lane(lanes, t, &lane_of(c, narrow::sign(a[0])));
         lows[t] = [a[0], a[1], a[2]];
         counting::count_up(&mut ds, q as u8);
-        t = t + 1;
     }
 }
 
@@ -129,11 +126,9 @@ fn choose_run(lanes: &[[i16; 256]; 7], from: usize, high: Scan, q: i16, run: &mu
     requires { Few q × Grid 7 256 lanes.now × (from + length run.old ≤ 256) × Lanes q from (length run.old) lanes.now × Part (nat_abs q) 5 (wide high) }
     ensures { Run q from (length run.old) lanes.now (wide high) run.new }
 {
-    let mut t: usize = 0;
-    while t < run.len() {
+    for (t, choice) in run.iter_mut().enumerate() {
         let low = scan_at(lanes, from + t);
-        run[t] = code(merged(low, high), lanes[6][from + t], q) as u8;
-        t = t + 1;
+        *choice = code(merged(low, high), lanes[6][from + t], q) as u8;
     }
 }
 
@@ -154,40 +149,27 @@ fn put_run(
     choose_run(lanes, from, high, q, &mut choices[i..to]);
 }
 
-// The choices of all entries of the slice of the last digit, and what is left by the low digits and by the high ones.
-pub fn fill_choices(
-    q: i16,
-    last: u8,
-    choices: &mut [u8; 16384],
-    lows: &mut [[i16; 3]; 256],
-    highs: &mut [[i16; 5]; 256],
-)
-    requires { Base q × (nat_abs q ≤ 4) × (last < nat_abs q) × (length choices.old ≡ 16384) × (length lows.old ≡ 256) × (length highs.old ≡ 256) }
-    ensures { Slice q last choices.new lows.new highs.new }
-{
-    let values = q as usize;
-    let three = values * values * values;
-    let four = values * three;
-    let mut lanes: [[i16; 256]; 7] = [[0; 256]; 7];
-    fill_lows(q, last, four, &mut lanes, lows);
-    let mut ds: [u8; 4] = [0; 4];
-    let mut f: [i16; 8] = [0; 8];
-    let mut a: [i16; 8] = [0; 8];
-    let mut g: usize = 0;
-    while g < four {
-        round_digits(&high_digits(&ds, last), q, &mut f, &mut a);
-        highs[g] = [a[3], a[4], a[5], a[6], a[7]];
-        let high = narrow::scanned(&f, &a, q, 3, 5);
-        put_run(
-            &lanes,
-            three * ds[0] as usize,
-            high,
-            q,
-            choices,
-            three * g,
-            three,
-        );
-        counting::count_up(&mut ds, q as u8);
-        g = g + 1;
+impl Halves {
+    // Of the slice of the last digit: the choices of all entries, and what is left by the low digits and by the high ones.
+    pub fn fill(&mut self, q: i16, last: u8)
+        requires { Base q × (nat_abs q ≤ 4) × (last < nat_abs q) × (length self.old.choices ≡ 16384) × (length self.old.lows ≡ 256) × (length self.old.highs ≡ 256) }
+        ensures { Slice q last self.new.choices self.new.lows self.new.highs }
+    {
+        let values = q as usize;
+        let three = values * values * values;
+        let four = values * three;
+        let mut lanes: [[i16; 256]; 7] = [[0; 256]; 7];
+        fill_lows(q, last, four, &mut lanes, &mut self.lows);
+        let mut ds: [u8; 4] = [0; 4];
+        let mut f: [i16; 8] = [0; 8];
+        let mut a: [i16; 8] = [0; 8];
+        for g in 0..four {
+            round_digits(&high_digits(&ds, last), q, &mut f, &mut a);
+            self.highs[g] = [a[3], a[4], a[5], a[6], a[7]];
+            let high = narrow::scanned(&f, &a, q, 3, 5);
+            let from = three * usize::from(ds[0]);
+            put_run(&lanes, from, high, q, &mut self.choices, three * g, three);
+            counting::count_up(&mut ds, q as u8);
+        }
     }
 }

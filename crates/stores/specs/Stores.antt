@@ -1,20 +1,19 @@
 -- Stores: code records one after the other, and the best hour of one (01, Scores; When the unit says no).
-use Rattle.std.specs.Prelude.{◌≡◌, cond, List, [], ◌∷◌, map, ℕ, suc, ◌+◌, ◌*◌, ◌-◌, ◌/◌, ◌<◌, ltb, ℤ, pos, nat_abs, length, take, drop}
+use Rattle.std.specs.Prelude.{◌≡◌, cond, List, [], ◌∷◌, map, ℕ, suc, ◌+◌, ◌*◌, ◌-◌, ◌/◌, ◌<◌, ltb, ℤ, pos, nat_abs, length, take, drop, Result, Ok}
 use Rattle.std.specs.Int.Signed.{lt_z}
 use Rattle.layers.specs.Digits.{cut}
 use Rattle.records.specs.Eight.Codes.{code_length}
 use Rattle.records.specs.Eight.Asked.{RecordTaken}
 use Rattle.records.specs.Eight.Vectors.{Hour, check_readings, units_taken, blocks_of}
 use Rattle.refusals.specs.declared.settings.Settings.{Settings}
+use Rattle.refusals.specs.declared.Refusal.{Refusal}
 use Rattle.refusals.specs.declared.Refusal.TheVariants.{EmptyStore}
-use Rattle.refusals.specs.declared.Verdict.{Verdict}
-use Rattle.refusals.specs.declared.Verdict.TheVariants.{Accepted, Refused}
+use Rattle.refusals.specs.Answers.{valued}
 use Rattle.refusals.specs.Settings.{check_settings}
 use Rattle.refusals.specs.Steps.{check_steps}
-use Rattle.refusals.specs.Verdicts.{unless, first_refusal}
+use Rattle.refusals.specs.Verdicts.{unless, first_refusal, Verdict}
 use Rattle.scores.specs.Eight.Scores.{query_total, check_code}
 use Rattle.stores.specs.declared.Best.{Best}
-use Rattle.stores.specs.declared.HourAnswer.{HourAnswer}
 
 -- ---- which stores are good
 
@@ -24,7 +23,7 @@ pieces n b = cut n ((length b + (n - 1)) / n) b
 
 -- records of K blocks in turn, the first at the byte o of the store: refusal 10 with the record's offset, or 7 with the byte's, both from the store's start
 abbrev pub check_records : ℕ → ℕ → ℕ → ℕ → ℕ → List (List ℕ) → Verdict
-check_records steps q m K o [] = Accepted
+check_records steps q m K o [] = Ok tt
 check_records steps q m K o (b ∷ l) = first_refusal (check_code steps q m K K o (o + 4) b ∷ check_records steps q m K (o + code_length m K) l ∷ [])
 
 -- refusal 11 where the store has no bytes; then its records
@@ -68,10 +67,13 @@ unfoldable pub check_best : Settings → List ℤ → Hour → List ℕ → Verd
 check_best c steps h b =
     first_refusal (check_settings c ∷ check_steps 0 steps ∷ h.frame ∷ check_readings 0 h.readings ∷ check_store (length steps) (nat_abs c.q) (nat_abs c.m) (blocks_of h) b ∷ [])
 
--- the hour and its score where the verdict accepts, 0 and 0 where it refuses
+-- what a search answers
+abbrev pub HourAnswer : Type 0
+HourAnswer = Result Best Refusal
+
+-- the hour and its score where the verdict accepts, else the refusal
 abbrev pub found : Verdict → Best → HourAnswer
-found Accepted b = record { verdict = Accepted; hour = b.hour; score = b.score }
-found (Refused r) b = record { verdict = Refused r; hour = 0; score = pos 0 }
+found = valued
 
 -- the whole answer
 unfoldable pub best_hour : Settings → List ℤ → Hour → List ℕ → HourAnswer

@@ -2,15 +2,13 @@
 use Rattle.std.specs.Prelude.{◌≡◌, List, [], ◌∷◌, ◌++◌, ℕ, ◌<◌, ◌≤◌, ℤ, nat_abs, length}
 use Rattle.records.specs.Eight.Vectors.{Hour, check_readings, units_taken, blocks_of}
 use Rattle.refusals.specs.declared.settings.Settings.{Settings}
-use Rattle.refusals.specs.declared.Verdict.{Verdict}
 use Rattle.refusals.specs.Answers.{written}
 use Rattle.refusals.specs.Settings.{check_settings}
 use Rattle.refusals.specs.Steps.{check_steps}
-use Rattle.refusals.specs.Verdicts.{first_refusal}
+use Rattle.refusals.specs.Verdicts.{first_refusal, Verdict}
 use Rattle.tables.specs.Filling.{check_table, lent_asked}
 use Rattle.tables.specs.Tables.{query_most, query_table}
-use Rattle.stores.specs.declared.HourAnswer.{HourAnswer}
-use Rattle.stores.specs.Stores.{check_store, best_in, found}
+use Rattle.stores.specs.Stores.{check_store, best_in, found, HourAnswer}
 
 -- what scores are looked up in: nothing, or entries that the table of the readings X stands in front of
 abbrev pub LookUp : ℕ → List ℤ → List ℤ → Type 0

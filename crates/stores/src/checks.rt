@@ -5,7 +5,7 @@ ghost use Rattle.scores.specs.Eight.Scores.{check_code};
 ghost use Rattle.stores.specs.Stores.{pieces, check_records, check_store};
 
 use records::codes;
-use refusals::{Refusal, Verdict};
+use refusals::Refusal;
 
 // The bytes of a code record of k blocks, its dimension included.
 pub(crate) fn code_length(m: usize, k: usize) -> usize
@@ -24,7 +24,7 @@ fn check_piece(
     m: usize,
     k: usize,
     at: usize,
-) -> Verdict
+) -> Result<(), Refusal>
     requires { (m ≤ 256) × (at + 4 + length rest.now < 2 ^ 64) }
     ensures { result ≡ check_code steps q m k k at (at + 4) (take n rest.now) }
 {
@@ -36,33 +36,31 @@ fn check_piece(
 }
 
 // Refusal 10 or 7 of the first record at fault.
-fn check_records(store: &[u8], steps: usize, q: usize, m: usize, k: usize) -> Verdict
+fn check_records(store: &[u8], steps: usize, q: usize, m: usize, k: usize) -> Result<(), Refusal>
     requires { (m ≤ 256) × (k ≤ 64) }
     ensures { result ≡ check_records steps q m k 0 (pieces (code_length m k) store.now) }
 {
     let n = code_length(m, k);
-    let mut at: usize = 0;
-    while at < store.len() {
-        match check_piece(&store[at..], n, steps, q, m, k, at) {
-            Verdict::Refused(r) => {
-                return Verdict::Refused(r);
-            }
-            Verdict::Accepted => {
-                at = at + n;
-            }
-        }
+    for at in (0..store.len()).step_by(n) {
+        check_piece(&store[at..], n, steps, q, m, k, at)?;
     }
-    Verdict::Accepted
+    Ok(())
 }
 
 // Refusal 11 for a store of no bytes, then its records in turn.
-pub(crate) fn check_store(store: &[u8], steps: usize, q: usize, m: usize, k: usize) -> Verdict
+pub(crate) fn check_store(
+    store: &[u8],
+    steps: usize,
+    q: usize,
+    m: usize,
+    k: usize,
+) -> Result<(), Refusal>
     requires { (m ≤ 256) × (k ≤ 64) }
     ensures { result ≡ check_store steps q m k store.now }
 {
     if 0 < store.len() {
         check_records(store, steps, q, m, k)
     } else {
-        Verdict::Refused(Refusal::EmptyStore)
+        Err(Refusal::EmptyStore)
     }
 }

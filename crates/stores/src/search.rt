@@ -9,12 +9,12 @@ ghost use Rattle.scores.specs.Eight.Scores.{query_total};
 ghost use Rattle.stores.specs.Tabled.{LookUp};
 ghost use Rattle.stores.specs.Stores.{StoreTaken, best_in, check_store, found, best_hour};
 
-use crate::{Best, HourAnswer, checks};
+use crate::{Best, checks};
 use layers::table;
 use lookups::query_score;
 use readings::words;
 use refusals::settings::Settings;
-use refusals::{Verdict, settings};
+use refusals::{Refusal, settings};
 use scores::{hours, query};
 
 // The score of readings X with one record: looked up where entries are lent, and else summed from its points, for which the rows are lent.
@@ -61,13 +61,11 @@ fn best_of(
         hour: 0,
         score: record_total(t, entries, steps, x, &store[0..n], q, m, k, &mut rows),
     };
-    let mut i: usize = 1;
-    while i < count {
+    for i in 1..count {
         let at = n * i;
         let end = at + n;
         let z = record_total(t, entries, steps, x, &store[at..end], q, m, k, &mut rows);
         best = crate::better(best, i, z);
-        i = i + 1;
     }
     best
 }
@@ -85,48 +83,39 @@ pub(crate) fn best_body(
     requires { LookUp (nat_abs q) x.now entries.now × Coder q m steps.now × Sized (8 * k) (2 ^ 24) x.now × StoreTaken (length steps.now) (nat_abs q) m k store.now × (k ≤ 64) }
     ensures { result ≡ best_in (nat_abs q) m steps.now x.now k store.now }
 {
+    let best = |t: &[i8]| best_of(t, entries, steps, x, store, q, m, k);
     if q == 2 {
-        best_of(&table::layer_points(), entries, steps, x, store, q, m, k)
+        best(&table::layer_points())
     } else {
-        best_of(&[0; 1], entries, steps, x, store, q, m, k)
+        best(&[])
     }
 }
 
 // The core on X: the store is checked whole, with as many blocks a record as there are of X, then searched.
-fn search_units(s: Settings, steps: &[i32], x: &[i32], store: &[u8]) -> HourAnswer
+fn search_units(s: Settings, steps: &[i32], x: &[i32], store: &[u8]) -> Result<Best, Refusal>
     requires { CoderTaken s steps.now × UnitsTaken x.now }
     ensures { result ≡ found (check_store (length steps.now) (nat_abs s.q) (nat_abs s.m) (length x.now / 8) store.now) (best_in (nat_abs s.q) (nat_abs s.m) steps.now x.now (length x.now / 8) store.now) }
 {
     let k = x.len() / 8;
     let m = settings::layers(s);
-    match checks::check_store(store, steps.len(), settings::digit_values(s), m, k) {
-        Verdict::Refused(r) => crate::no_hour(r),
-        Verdict::Accepted => {
-            crate::hour_found(best_body(&x[0..0], steps, x, store, settings::base(s), m, k))
-        }
-    }
+    checks::check_store(store, steps.len(), settings::digit_values(s), m, k)?;
+    Ok(best_body(&x[0..0], steps, x, store, settings::base(s), m, k))
 }
 
 // The best hour for a query in whole units.
-pub fn best_hour_units(s: Settings, steps: &[i32], x: &[i32], store: &[u8]) -> HourAnswer
+pub fn best_hour_units(s: Settings, steps: &[i32], x: &[i32], store: &[u8]) -> Result<Best, Refusal>
     ensures answer { result ≡ best_hour s steps.now (units_hour x.now) store.now }
 {
-    match hours::check_units_hour(s, steps, x) {
-        Verdict::Refused(r) => crate::no_hour(r),
-        Verdict::Accepted => search_units(s, steps, x, store),
-    }
+    hours::check_units_hour(s, steps, x)?;
+    search_units(s, steps, x, store)
 }
 
 // The best hour for a query that is an fvecs record.
-pub fn best_hour(s: Settings, steps: &[i32], query: &[u8], store: &[u8]) -> HourAnswer
+pub fn best_hour(s: Settings, steps: &[i32], query: &[u8], store: &[u8]) -> Result<Best, Refusal>
     ensures answer { result ≡ best_hour s steps.now (fvecs_hour query.now) store.now }
 {
     let mut x: [i32; hours::READINGS_MOST] = [0; hours::READINGS_MOST];
-    match hours::take_fvecs_hour(s, steps, query, &mut x) {
-        Verdict::Refused(r) => crate::no_hour(r),
-        Verdict::Accepted => {
-            let n = words::word_at(query, 0) as usize;
-            search_units(s, steps, &x[0..n], store)
-        }
-    }
+    hours::take_fvecs_hour(s, steps, query, &mut x)?;
+    let n = words::word_at(query, 0) as usize;
+    search_units(s, steps, &x[0..n], store)
 }

@@ -1,13 +1,11 @@
 -- Filling the tables: what is checked in which order, the answer, and the lent table afterwards (01, Scores; When the unit says no).
 use Rattle.std.specs.Prelude.{List, [], ◌∷◌, ℕ, ◌*◌, leb, ℤ, pos, nat_abs, length}
 use Rattle.records.specs.Eight.Vectors.{Hour, check_readings, units_taken, blocks_of}
-use Rattle.refusals.specs.declared.Answer.{Answer}
 use Rattle.refusals.specs.declared.settings.Settings.{Settings}
 use Rattle.refusals.specs.declared.Refusal.TheVariants.{Table, Size}
-use Rattle.refusals.specs.declared.Verdict.{Verdict}
-use Rattle.refusals.specs.Answers.{valued, written}
+use Rattle.refusals.specs.Answers.{valued, written, Answer}
 use Rattle.refusals.specs.Settings.{check_settings}
-use Rattle.refusals.specs.Verdicts.{unless, first_refusal}
+use Rattle.refusals.specs.Verdicts.{unless, first_refusal, Verdict}
 use Rattle.tables.specs.Tables.{pair_most, query_most, pair_size, part_size, pair_table, query_table}
 
 -- refusal 8 where q is past the greatest that the table is for

@@ -11,7 +11,7 @@ ghost use Rattle.tables.specs.Tables.{pair_most, pair_size, pair_row, pair_table
 use coding::counting;
 use layers::{lookup, table};
 use refusals::settings::Settings;
-use refusals::{Answer, Refusal, Verdict, settings};
+use refusals::{Refusal, settings};
 use scores::inner;
 
 // The greatest q that the table is for, and its entries.
@@ -26,12 +26,10 @@ fn fill_row(t: &[i8], ds: &[u8], row: &mut [i8])
 {
     let e = lookup::table_point(t, ds);
     let mut js: [u8; 8] = [0; 8];
-    let mut j: usize = 0;
-    while j < row.len() {
+    for entry in row.iter_mut() {
         let f = lookup::table_point(t, &js);
-        row[j] = inner::points_inner(&e, &f) as i8;
+        *entry = inner::points_inner(&e, &f) as i8;
         counting::count_up(&mut js, 2);
-        j = j + 1;
     }
 }
 
@@ -41,55 +39,44 @@ fn fill_rows(t: &[i8], entries: &mut [i8])
     ensures { entries.new ≡ pair_table ++ drop pair_size entries.old }
 {
     let mut ds: [u8; 8] = [0; 8];
-    let mut i: usize = 0;
-    while i < 256 {
+    for i in 0..256 {
         let from = 256 * i;
         let to = from + 256;
         fill_row(t, &ds, &mut entries[from..to]);
         counting::count_up(&mut ds, 2);
-        i = i + 1;
     }
 }
 
 // Of a lent pair table and the settings: refusal 8 where q is not 2, 3 where the table is shorter than 65,536.
-pub fn check_lent(s: Settings, room: usize) -> Verdict
+pub fn check_lent(s: Settings, room: usize) -> Result<(), Refusal>
     requires { Allowed s.q s.m }
     ensures { result ≡ first_refusal (check_table pair_most s ∷ check_entries pair_size room ∷ []) }
 {
     if settings::digit_values(s) <= PAIR_MOST {
         if PAIR_SIZE <= room {
-            Verdict::Accepted
+            Ok(())
         } else {
-            Verdict::Refused(Refusal::Size(2))
+            Err(Refusal::Size(2))
         }
     } else {
-        Verdict::Refused(Refusal::Table)
+        Err(Refusal::Table)
     }
 }
 
 // Refusal 1, then those of the table.
-fn check_pair_table(s: Settings, room: usize) -> Verdict
+fn check_pair_table(s: Settings, room: usize) -> Result<(), Refusal>
     ensures { result ≡ check_pair_table s room }
 {
-    match settings::check_settings(s) {
-        Verdict::Refused(r) => Verdict::Refused(r),
-        Verdict::Accepted => check_lent(s, room),
-    }
+    settings::check_settings(s)?;
+    check_lent(s, room)
 }
 
 // Fills the front of the lent table with the 65,536 entries of the pair table; its value is that number.
-pub fn fill_pair_table(s: Settings, entries: &mut [i8]) -> Answer
+pub fn fill_pair_table(s: Settings, entries: &mut [i8]) -> Result<i64, Refusal>
     ensures answer { result ≡ pair_filled s (length entries.old) }
     ensures room { entries.new ≡ pair_table_room s entries.old }
 {
-    match check_pair_table(s, entries.len()) {
-        Verdict::Refused(r) => refusals::refused(r),
-        Verdict::Accepted => {
-            fill_rows(&table::layer_points(), entries);
-            Answer {
-                verdict: Verdict::Accepted,
-                value: PAIR_SIZE as i64,
-            }
-        }
-    }
+    check_pair_table(s, entries.len())?;
+    fill_rows(&table::layer_points(), entries);
+    Ok(PAIR_SIZE as i64)
 }

@@ -3,13 +3,10 @@ ghost use Rattle.std.specs.Prelude.{◌≡◌, ◌≤◌, nat_abs};
 ghost use Rattle.layers.specs.Sizes.{Base};
 ghost use Rattle.tables.specs.Tables.{query_most, part_size};
 
-// The entries of one part: q^8, squared from q three times.
+// The entries of one part: q^8.
 pub fn part_size(q: i64) -> usize
     requires { Base q × (nat_abs q ≤ query_most) }
     ensures { result ≡ part_size (nat_abs q) }
 {
-    let one = q as usize;
-    let two = one * one;
-    let four = two * two;
-    four * four
+    (q as usize).pow(8)
 }

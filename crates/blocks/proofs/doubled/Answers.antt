@@ -1,52 +1,20 @@
--- `doubled` fills by twice each reading: after i turns the first i entries are right; twice a number of 32 bits fits 64.
-use mathlib.Core.Path.{refl}
-use mathlib.Core.List.{List}
-use Prim.Native.Nat.{◌^◌, ◌≤◌}
-use native.Mathlib.Omega.{arith}
-use lib.IntN.{ℤ, pos, negsuc, nat_abs}
-use mir.Syntax.{w32, w64}
-use mir.Val.{SFits}
-use mir.Facts.{to_z-of_z, sfits_widen}
-use Rattle.integers.specs.Laws.Loops.{filled_more, filled-all}
-use Rattle.integers.specs.Laws.Sizes.{fits-mul}
-use Rattle.integers.specs.Vectors.{«at»}
+-- Each reading, and twice it, fits.
+use Rattle.std.proofs.Common.{rules, List, ℕ, ℤ, pos, ◌*ℤ◌, ◌^◌, arith, SFits, w32, w64}
+use Rattle.integers.specs.Laws.Arrays.{from_fn-map}
+use Rattle.integers.specs.Laws.Sizes.{fits-abs, fits-mag, fits-mul}
+use Rattle.integers.specs.Vectors.{«at», Sized}
 use Rattle.blocks.proofs.doubled.Goals as goal
-use Rattle.blocks.proofs.doubled.Goals.{After-r-1}
-use Rattle.blocks.proofs.doubled.Invariants.{twice}
 
-narrow : (z : ℤ) → SFits w32 z → nat_abs z ≤ 2 ^ 31
-narrow (pos n) h = omega (arith, h.sfits)
-narrow (negsuc n) h = omega (arith, h.sfits)
+reading_fits : (x : List ℤ) → Sized 8 (2 ^ 24) x → (i : ℕ) → SFits w32 («at» x i)
+reading_fits x h i = fits-mag w32 _ (omega (arith, h.small i))
 
--- the reading that is doubled
-module _ (c : After-r-1) where
-  abbrev x : List ℤ
-  x = c.before.before.before.args.x.now
+wide_fits : (x : List ℤ) → Sized 8 (2 ^ 24) x → (i : ℕ) → SFits w64 («at» x i)
+wide_fits x h i = fits-abs _ (omega (arith, h.small i))
 
-  abbrev z : ℤ
-  z = «at» x c.before.before.loop-i.i
-
-  fz : SFits w32 z
-  fz = record { sfits = c.r-1.given }
-
-  gz : SFits w64 z
-  gz = sfits_widen tt fz
-
-  g2z : SFits w64 (twice z)
-  g2z = fits-mul (pos 2) z 2 (2 ^ 31) (omega arith) (narrow z fz) (omega arith)
-
-pub loop-i-init : goal.loop-i-init
-loop-i-init c = record { within = omega arith; long = refl; same = refl }
-
-pub overflow_cast-r : goal.overflow_cast-r
-overflow_cast-r c = simp (to_z-of_z, fz c) (gz c)
-
-pub overflow_mul-r : goal.overflow_mul-r
-overflow_mul-r c = simp (to_z-of_z, fz c, gz c) (g2z c)
-
-pub loop-i-preserved : goal.loop-i-preserved
-loop-i-preserved c = let b = c.before.before in
-    simp (to_z-of_z, fz c, gz c, g2z c) (filled_more twice 8 (x c) b.before.requires (pos 0) (twice (z c)) refl c.before.loop-i-test.true b.loop-i.invariant)
+twice_fits : (x : List ℤ) → Sized 8 (2 ^ 24) x → (i : ℕ) → SFits w64 (pos 2 *ℤ «at» x i)
+twice_fits x h i = fits-mul (pos 2) («at» x i) 2 (2 ^ 24) (omega arith) (h.small i) (omega arith)
 
 pub returns : goal.returns
-returns c = let b = c.before.before in filled-all twice 8 b.args.x.now b.requires (omega arith) c.before.loop-i.invariant
+returns c = let x = c.args.x.now in
+    from_fn-map _ (λ (z : ℤ). pos 2 *ℤ z) x (pos 0) (pos 0) c.requires.long c.from_fn.ensures.items
+    (λ k y q l e. let f = reading_fits x c.requires k in let g = wide_fits x c.requires k in let h = twice_fits x c.requires k in search rules)

@@ -1,10 +1,8 @@
 -- What it says that a point, or digits, were taken and not refused.
-use Rattle.std.specs.Prelude.{◌≡◌, refl, Bool, true, false, ◌&&◌, cond, List, [], ◌∷◌, ℕ, suc, ◌*◌, ◌-◌, ◌^◌, ◌<◌, ◌≤◌, eqb, leb, ltb, ℤ, nat_abs, length}
+use Rattle.std.specs.Prelude.{◌≡◌, refl, Bool, true, false, ◌&&◌, cond, List, [], ◌∷◌, ℕ, suc, ◌*◌, ◌-◌, ◌^◌, ◌<◌, ◌≤◌, eqb, leb, ltb, ℤ, nat_abs, length, Ok, Err}
 use Rattle.std.proofs.Common.{◌∙◌, ap, subst, arith, eqb-true, leb-true, lt-ltb}
 use Rattle.refusals.specs.declared.settings.Settings.{Settings}
 use Rattle.refusals.specs.declared.Refusal.TheVariants.{Settings as BadSettings, Size, Byte, Point}
-use Rattle.refusals.specs.declared.Verdict.{Verdict}
-use Rattle.refusals.specs.declared.Verdict.TheVariants.{Accepted, Refused}
 use Rattle.integers.specs.Laws.Linear.{Z, abs-parts}
 use Rattle.integers.specs.Laws.Sums.{sized-more}
 use Rattle.integers.specs.Laws.Tests.{and-true, sized-small}
@@ -13,7 +11,7 @@ use Rattle.refusals.specs.Laws.Allowed.{settings-allowed}
 use Rattle.refusals.specs.Laws.Verdicts.{refused-never, unless-accepted, first-accepted}
 use Rattle.refusals.specs.Limits.{point_most}
 use Rattle.refusals.specs.Settings.{check_settings, Allowed}
-use Rattle.refusals.specs.Verdicts.{unless}
+use Rattle.refusals.specs.Verdicts.{unless, Verdict}
 use Rattle.lattice.specs.Doubled.{is_point}
 use Rattle.coding.specs.Answers.{check_point, check_below, check_digits}
 use Rattle.layers.specs.Digits.{Below, IsCode}
@@ -23,7 +21,7 @@ use Rattle.layers.proofs.Laws.Widths.{leftover-stays}
 use Rattle.layers.specs.Sizes.{long_power, Base}
 
 -- the settings of an accepted check
-pub checked-allowed : (c : Settings) → check_settings c ≡ Accepted → Allowed c.q c.m
+pub checked-allowed : (c : Settings) → check_settings c ≡ Ok tt → Allowed c.q c.m
 checked-allowed c e = settings-allowed c.q c.m (unless-accepted _ BadSettings e)
 
 -- settings that are allowed are a base that the code takes
@@ -36,7 +34,7 @@ pub record PointTaken (c : Settings) (e : List ℤ) (room : ℕ) : Type 0 where
   pub member : is_point e ≡ true
   pub fits : 8 * nat_abs c.m ≤ room
 
-pub point-taken : (c : Settings) (e : List ℤ) (room : ℕ) → check_point c e room ≡ Accepted → PointTaken c e room
+pub point-taken : (c : Settings) (e : List ℤ) (room : ℕ) → check_point c e room ≡ Ok tt → PointTaken c e room
 unfolding check_point
 point-taken c e room k =
     let eight : Verdict = unless (eqb (length e) 8) (Size 0) in let roomy : Verdict = unless (leb (8 * nat_abs c.m) room) (Size 1) in let limits : Verdict = unless (small point_most e && is_point e) Point in
@@ -51,24 +49,24 @@ point-taken c e room k =
     }
 
 -- digits of an accepted check
-pub below-taken : (q i : ℕ) (ds : List ℕ) → check_below q i ds ≡ Accepted → Below q ds
+pub below-taken : (q i : ℕ) (ds : List ℕ) → check_below q i ds ≡ Ok tt → Below q ds
 below-taken q i [] k = tt
 below-taken q i (d ∷ ds) k = go (ltb d q) (λ e. leb-true (suc d) q e) (λ h. below-taken q (suc i) ds h) k
   where
-    go : (b : Bool) → (b ≡ true → d < q) → (check_below q (suc i) ds ≡ Accepted → Below q ds) → cond b (check_below q (suc i) ds) (Refused (Byte i)) ≡ Accepted → (d < q) × Below q ds
+    go : (b : Bool) → (b ≡ true → d < q) → (check_below q (suc i) ds ≡ Ok tt → Below q ds) → cond b (check_below q (suc i) ds) (Err (Byte i)) ≡ Ok tt → (d < q) × Below q ds
     go true f rest k = (f refl, rest k)
     go false f rest k = refused-never k
 
 -- and digits below q are accepted
-pub below-accepted : (q i : ℕ) (ds : List ℕ) → Below q ds → check_below q i ds ≡ Accepted
+pub below-accepted : (q i : ℕ) (ds : List ℕ) → Below q ds → check_below q i ds ≡ Ok tt
 below-accepted q i [] h = refl
-below-accepted q i (d ∷ ds) h = ap (λ (t : Bool). cond t (check_below q (suc i) ds) (Refused (Byte i))) (lt-ltb d q h.0) ∙ below-accepted q (suc i) ds h.1
+below-accepted q i (d ∷ ds) h = ap (λ (t : Bool). cond t (check_below q (suc i) ds) (Err (Byte i))) (lt-ltb d q h.0) ∙ below-accepted q (suc i) ds h.1
 
 pub record DigitsTaken (c : Settings) (ds : List ℕ) : Type 0 where
   pub allowed : Allowed c.q c.m
   pub code : IsCode 8 (nat_abs c.q) (nat_abs c.m) ds
 
-pub digits-taken : (c : Settings) (ds : List ℕ) → check_digits c ds ≡ Accepted → DigitsTaken c ds
+pub digits-taken : (c : Settings) (ds : List ℕ) → check_digits c ds ≡ Ok tt → DigitsTaken c ds
 unfolding check_digits
 digits-taken c ds k =
     let long : Verdict = unless (eqb (length ds) (8 * nat_abs c.m)) (Size 0) in let below : Verdict = check_below (nat_abs c.q) 0 ds in

@@ -42,17 +42,8 @@ module _ (s : Start) where
   fsum : SFits w16 (less +ℤ x 7)
   fsum = fits-mag w16 (less +ℤ x 7) (omega (arith, small))
 
-pub overflow_mul-result : goal.overflow_mul-result
-overflow_mul-result c = let s = c.before in simp (to_z-of_z, fx s (k s)) (f2x s (k s))
-
-pub overflow_mul-result-2 : goal.overflow_mul-result-2
-overflow_mul-result-2 c = let s = c.before.before in simp (to_z-of_z, fx s (k s + 1)) (f2x s (k s + 1))
-
-pub overflow_sub-result : goal.overflow_sub-result
-overflow_sub-result c = let s = c.before.before in simp (to_z-of_z, fx s (k s), fx s (k s + 1), f2x s (k s), f2x s (k s + 1)) (fless s)
-
 pub overflow_add-result-2 : goal.overflow_add-result-2
-overflow_add-result-2 c = let s = c.before.before.before in simp (to_z-of_z, fx s (k s), fx s (k s + 1), fx s 7, f2x s (k s), f2x s (k s + 1), fless s) (fsum s)
+overflow_add-result-2 c = let s = (goal.at.overflow_add-result-2 c).Start in simp (to_z-of_z, fx s (k s), fx s (k s + 1), fx s 7, f2x s (k s), f2x s (k s + 1), fless s) (fsum s)
 
 pub returns : goal.returns
-returns c = let s = c.before.before.before in simp (to_z-of_z, fx s (k s), fx s (k s + 1), fx s 7, f2x s (k s), f2x s (k s + 1), fless s, fsum s) (refl, small s)
+returns c = let s = (goal.at.returns c).Start in simp (to_z-of_z, fx s (k s), fx s (k s + 1), fx s 7, f2x s (k s), f2x s (k s + 1), fless s, fsum s) (refl, small s)

@@ -12,16 +12,13 @@ use Rattle.integers.specs.Laws.Loops.{range_at}
 use Rattle.integers.specs.Laws.Sizes.{abs-add, abs-sub, abs-mul, abs-mul-le, lt_z-true, lt_z-false}
 use Rattle.integers.specs.Laws.Sums.{entries, lengths, at_map}
 use Rattle.integers.specs.Vectors.{square, «at», sub_v, scale_v, Bounded, Sized}
-use Rattle.rounding.specs.declared.half.Mend.{Mend}
-use Rattle.rounding.specs.declared.half.Scan.{Scan}
-use Rattle.rounding.specs.declared.point.Choice.{Choice}
 use Rattle.lattice.specs.Computed.{nearest_point}
 use Rattle.rounding.proofs.Laws.Choice.{mended-bound, nearest_point-code}
 use Rattle.rounding.specs.Laws.Keys.{key-small}
 use Rattle.rounding.proofs.Laws.Lowered.{lowered-small}
 use Rattle.rounding.proofs.Laws.Reciprocals.{twice-pos, round_is, left-small}
-use Rattle.columns.specs.Narrow.{Few, Near, Narrow, Part, Slim, Slender, Slight, brief, left_at, left_by, scanned_from}
-use Rattle.rounding.specs.Pass.{seen, scanned, mended, choose, chosen, spread_by}
+use Rattle.columns.specs.Narrow.{Few, Near, Narrow, Part, Slim, Slender, Slight, brief, left_at, left_by}
+use Rattle.rounding.specs.Pass.{Scan, Mend, Choice, seen, scanned, scanned_from, mended, choose, chosen, spread_by}
 use Rattle.rounding.specs.Rounding.{round, left, sign, lowered, key, Divisor}
 
 pub few-divisor : {s : ℤ} → Few s → Divisor s
@@ -183,19 +180,19 @@ module _ (s : ℤ) (s> : pos 0 <ℤ s) (d : List ℤ) (long : length d ≡ 8) wh
   e = spread_by h.parity f a
 
   abbrev p : List ℤ
-  p = set e h.mend.place («at» e h.mend.place +ℤ h.mend.step)
+  p = set e h.place («at» e h.place +ℤ h.step)
 
   spread_at : (i : ℕ) → i < 8 → «at» e i ≡ pos 2 *ℤ round S («at» d i) +ℤ h.parity *ℤ sign («at» a i)
   spread_at i l = range_at (λ (i : ℕ). pos 2 *ℤ «at» f i +ℤ h.parity *ℤ sign («at» a i)) 0 8 i (pos 0) l
       ∙ rw (zero-add i) (ap (λ (x : ℤ). pos 2 *ℤ x +ℤ h.parity *ℤ sign («at» a i)) (at_map (round S) d i (omega arith)))
 
   entry : (i : ℕ) → i < 8 → left_at s (brief h) a i ≡ «at» (sub_v d (scale_v s p)) i
-  entry i l = let t : ℤ = cond (eqb i h.mend.place) h.mend.step (pos 0) in let w : ℤ = h.parity *ℤ sign («at» a i) in
+  entry i l = let t : ℤ = cond (eqb i h.place) h.step (pos 0) in let w : ℤ = h.parity *ℤ sign («at» a i) in
       ap (λ (x : ℤ). x -ℤ s *ℤ (w +ℤ t)) (at_map (left S) d i (omega arith)) ∙ leaves s (round S («at» d i)) («at» d i) w t
-      ∙ ap (λ (x : ℤ). «at» d i +ℤ neg_ℤ (s *ℤ x)) (sym (at-step e h.mend.place i h.mend.step (omega arith) ∙ ap (λ (x : ℤ). x +ℤ t) (spread_at i l)))
+      ∙ ap (λ (x : ℤ). «at» d i +ℤ neg_ℤ (s *ℤ x)) (sym (at-step e h.place i h.step (omega arith) ∙ ap (λ (x : ℤ). x +ℤ t) (spread_at i l)))
       ∙ sym (simp entries)
 
   pub rest-code : left_by s (brief h) a ≡ sub_v d (scale_v s (nearest_point s d))
-  rest-code = ext_get_or (pos 0) (left_by s (brief h) a) (sub_v d (scale_v s p)) (simp lengths (omega (arith, long, length-set e h.mend.place («at» e h.mend.place +ℤ h.mend.step))))
+  rest-code = ext_get_or (pos 0) (left_by s (brief h) a) (sub_v d (scale_v s p)) (simp lengths (omega (arith, long, length-set e h.place («at» e h.place +ℤ h.step))))
       (λ i l. range_at (left_at s (brief h) a) 0 8 i (pos 0) l ∙ rw (zero-add i) (entry i l))
       ∙ ap (λ (p : List ℤ). sub_v d (scale_v s p)) (nearest_point-code s s> d long)

@@ -44,7 +44,7 @@ module _ (c : In-loop-i) where
   written = joined (map (decoded_bytes q m steps) (cut (block_size m) i body))
 
   out-is : c.loop-i.out ≡ written ++ drop (32 * i) found
-  out-is = simp (to_z-of_z, c.ranges.q) at c.loop-i.invariant.2
+  out-is = simp (to_z-of_z, c.ranges.q) at c.loop-i.invariant.1
 
   abbrev n : ℕ
   n = c.block_size-n.result
@@ -72,7 +72,7 @@ module _ (c : In-loop-i) where
       let g = decoded_bytes q m steps in let a : ℕ = 32 * i in let whole : a + 32 - a ≡ 32 = omega arith in let next : a + 32 ≡ 32 * (i + 1) = omega arith in
       ap₂ (λ (k : ℕ) (p : List ℕ). put_mid a k c.loop-i.out p) whole h
       ∙ ap (λ (o : List ℕ). take a o ++ (g block ++ drop 32 (drop a o))) out-is
-      ∙ write-in written (g block) found a 32 (front_long written found a c.loop-i.out out-is c.loop-i.invariant.1 (omega (arith, room)))
+      ∙ write-in written (g block) found a 32 (front_long written found a c.loop-i.out out-is c.loop-i.invariant.0 (omega (arith, room)))
       ∙ ap₂ (λ (w : List ℕ) (k : ℕ). w ++ drop k found) (sym (ap (λ (l : List (List ℕ)). joined (map g l)) (cut-more (block_size m) i body) ∙ joined-more g (cut (block_size m) i body) block)) next
 
 -- its step
@@ -84,12 +84,11 @@ pub put_readings-requires : goal.put_readings-requires
 put_readings-requires c = let w = goal.at.put_readings-requires c in let b = w.In-loop-i in let h = c.loop-i-test.true in
     simp (to_z-of_z, step_fits w.After-step_of-s, length-take, length-drop) (
       subst₂ Readable (sym (c.step_of-s.ensures ∙ ap (step_of (steps b)) (block-is b))) (sym (row_is b)) (block-readable c.args.q (m b) (steps b) (block b) c.requires.1 (c.requires.2.each (i b) h)),
-      omega (arith, room b, c.loop-i.invariant.1),
+      omega (arith, room b, c.loop-i.invariant.0),
     )
 
 pub loop-i-preserved : goal.loop-i-preserved
 loop-i-preserved c = let w = goal.at.loop-i-preserved c in let b = w.In-loop-i in (
-  omega arith,
   search rules,
   simp (to_z-of_z, c.ranges.q) (more-is b c.put_readings.new.out ((simp (to_z-of_z, step_fits w.After-step_of-s) at c.put_readings.ensures)
       ∙ ap₂ (λ (s : ℤ) (e : List ℤ). joined (map (reading_bytes s) e)) (c.step_of-s.ensures ∙ ap (step_of (steps b)) (block-is b)) (row_is b))),

@@ -38,7 +38,7 @@ module _ (c : At-loop-i) where
   written = joined (map (reading_bytes s) (take i e))
 
   out-is : c.loop-i.out ≡ written ++ drop (4 * i) found
-  out-is = simp (to_z-of_z, c.ranges.s) at c.loop-i.invariant.2
+  out-is = simp (to_z-of_z, c.ranges.s) at c.loop-i.invariant.1
 
   written-long : length written ≡ 4 * i
   written-long = front_long written found (4 * i) c.loop-i.out out-is (omega (arith, c.requires.1)) (omega (arith, c.requires.1))
@@ -47,7 +47,6 @@ pub loop-i-preserved : goal.loop-i-preserved
 loop-i-preserved c =
     let b = (goal.at.loop-i-preserved c).At-loop-i in let n : SFits w16 (x b) = search rules in let wide : SFits w64 (x b) = record { sfits = omega (arith, n.sfits) } in
     let bytes : List ℕ = reading_bytes (s b) (x b) in let four : 4 * i b + 4 ≡ 4 * (i b + 1) = omega arith in (
-      omega arith,
       search rules,
       simp (to_z-of_z, c.ranges.s) (
           (simp (to_z-of_z, c.ranges.s, n, wide) at c.put_decoded.ensures)

@@ -1,15 +1,13 @@
 -- What it says that a record was taken for decoding: its readings are exact.
-use Rattle.std.specs.Prelude.{◌≡◌, Bool, true, List, [], ◌∷◌, ℕ, ◌<◌, ◌≤◌, leb, ℤ, nat_abs, length, get_or, drop}
+use Rattle.std.specs.Prelude.{◌≡◌, Bool, true, List, [], ◌∷◌, ℕ, ◌<◌, ◌≤◌, leb, ℤ, nat_abs, length, get_or, drop, Ok}
 use Rattle.std.proofs.Common.{ap, arith, leb-true, le-leb}
 use Rattle.refusals.specs.declared.settings.Settings.{Settings}
 use Rattle.refusals.specs.declared.Refusal.TheVariants.{Size, Record}
-use Rattle.refusals.specs.declared.Verdict.{Verdict}
-use Rattle.refusals.specs.declared.Verdict.TheVariants.{Accepted}
 use Rattle.refusals.specs.Laws.Verdicts.{unless-accepted, first-accepted, first-all}
 use Rattle.refusals.specs.Limits.{blocks_most}
 use Rattle.refusals.specs.Settings.{check_settings}
 use Rattle.refusals.specs.Steps.{check_steps}
-use Rattle.refusals.specs.Verdicts.{unless}
+use Rattle.refusals.specs.Verdicts.{unless, Verdict}
 use Rattle.layers.proofs.Laws.Bases.{base-two}
 use Rattle.layers.proofs.Laws.E8.{decode-in8, decode-times8}
 use Rattle.records.specs.Eight.Codes.{Coder, IsBlock, block_size, blocks_in, code_blocks, check_frame, check_blocks, step_of, whole_point}
@@ -33,7 +31,7 @@ pub record DecodeTaken (c : Settings) (steps : List ℤ) (b : List ℕ) (room : 
   pub fits : fvecs_length (blocks_in (nat_abs c.m) b) ≤ room
 
 -- the checks say all of that
-pub decode-taken : (c : Settings) (steps : List ℤ) (b : List ℕ) (room : ℕ) → check_decode c steps b room ≡ Accepted → DecodeTaken c steps b room
+pub decode-taken : (c : Settings) (steps : List ℤ) (b : List ℕ) (room : ℕ) → check_decode c steps b room ≡ Ok tt → DecodeTaken c steps b room
 unfolding check_decode
 decode-taken c steps b room e =
     let m : ℕ = nat_abs c.m in let q : ℕ = nat_abs c.q in let listed : Verdict = check_steps 0 steps in let frame : Verdict = check_frame m 1 blocks_most 0 b in
@@ -47,8 +45,8 @@ decode-taken c steps b room e =
     }
 
 -- and the other way: where nothing is at fault decoding is accepted
-pub decode-accepted : (c : Settings) (steps : List ℤ) (b : List ℕ) (room : ℕ) → let m = nat_abs c.m in check_settings c ≡ Accepted → check_steps 0 steps ≡ Accepted → good_record 1 (block_size m) 1 blocks_most b ≡ true
-    → fvecs_length (blocks_in m b) ≤ room → check_blocks (length steps) (nat_abs c.q) (block_size m) 0 (code_blocks m b) ≡ Accepted → check_decode c steps b room ≡ Accepted
+pub decode-accepted : (c : Settings) (steps : List ℤ) (b : List ℕ) (room : ℕ) → let m = nat_abs c.m in check_settings c ≡ Ok tt → check_steps 0 steps ≡ Ok tt → good_record 1 (block_size m) 1 blocks_most b ≡ true
+    → fvecs_length (blocks_in m b) ≤ room → check_blocks (length steps) (nat_abs c.q) (block_size m) 0 (code_blocks m b) ≡ Ok tt → check_decode c steps b room ≡ Ok tt
 unfolding check_decode
 decode-accepted c steps b room s l f r d =
     let m : ℕ = nat_abs c.m in let roomy : Verdict = unless (leb (fvecs_length (blocks_in m b)) room) (Size 1) in

@@ -1,5 +1,5 @@
 -- What a reader finds in the code record of blocks l, whatever follows it, for every q, M and K.
-use Rattle.std.specs.Prelude.{◌≡◌, true, List, [], ◌++◌, map, ℕ, ◌+◌, ◌*◌, ◌/◌, ◌<◌, ◌≤◌, ℤ, nat_abs, length, get_or, take, drop}
+use Rattle.std.specs.Prelude.{◌≡◌, true, List, [], ◌++◌, map, ℕ, ◌+◌, ◌*◌, ◌/◌, ◌<◌, ◌≤◌, ℤ, nat_abs, length, get_or, take, drop, Ok}
 use Rattle.std.proofs.Common.{sym, ◌∙◌, ap, mul-le-mul, arith, length-append, drop-drop}
 use Rattle.std.proofs.Math.Nat.{mul-div_right}
 use Rattle.std.proofs.lemmas.List.{length-map}
@@ -10,7 +10,6 @@ use Rattle.blocks.specs.Trials.{point_at, first_fitting, block_code}
 use Rattle.layers.specs.E8.{e8, nearest}
 use Rattle.readings.proofs.Laws.Words.{word_first}
 use Rattle.readings.specs.Words.{word_at}
-use Rattle.refusals.specs.declared.Verdict.TheVariants.{Accepted}
 use Rattle.refusals.specs.Limits.{blocks_most, m_most}
 use Rattle.records.specs.Eight.Codes.{block_size, blocks_in, code_blocks, check_blocks, Coder, IsBlock, step_of, whole_point}
 use Rattle.layers.specs.Code.{code8}
@@ -91,6 +90,6 @@ module _ (q : ℤ) (m : ℕ) (steps : List ℤ) (coder : Coder q m steps) (l : L
     })
 
   -- so that no byte of it is refused
-  pub encoded-good : check_blocks (length steps) (nat_abs q) (block_size m) 0 read ≡ Accepted
+  pub encoded-good : check_blocks (length steps) (nat_abs q) (block_size m) 0 read ≡ Ok tt
   encoded-good = let n : length read ≡ length l = ap length read_is ∙ length-map l (block_code e8 nearest (nat_abs q) m steps) in
       blocks-accepted (length steps) (nat_abs q) m (block_size m) 0 read (λ j k. block-good j (omega arith))

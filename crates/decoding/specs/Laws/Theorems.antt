@@ -1,5 +1,5 @@
 -- What decoding makes of an encoded hour: for every hour, q, M and K, the nearest points again.
-use Rattle.std.specs.Prelude.{◌≡◌, leb, ℤ, nat_abs, length, get_or, take, drop}
+use Rattle.std.specs.Prelude.{◌≡◌, leb, ℤ, nat_abs, length, get_or, take, drop, Ok}
 use Rattle.std.proofs.Math.Path.{sym, ap}
 use Rattle.std.proofs.Common.{◌∙◌, arith, length-take, length-drop}
 use mathlib.Core.List.{List, [], ◌∷◌, ◌++◌}
@@ -8,14 +8,12 @@ use Rattle.blocks.specs.Trials.{point_at, first_fitting, block_code}
 use Rattle.layers.specs.E8.{e8, nearest}
 use Rattle.refusals.specs.declared.settings.Settings.{Settings}
 use Rattle.refusals.specs.declared.Refusal.TheVariants.{Size}
-use Rattle.refusals.specs.declared.Verdict.{Verdict}
-use Rattle.refusals.specs.declared.Verdict.TheVariants.{Accepted}
 use Rattle.refusals.specs.Answers.{written}
 use Rattle.refusals.specs.Laws.Verdicts.{first-accepted}
 use Rattle.refusals.specs.Limits.{blocks_most}
 use Rattle.refusals.specs.Settings.{check_settings}
 use Rattle.refusals.specs.Steps.{check_steps}
-use Rattle.refusals.specs.Verdicts.{unless}
+use Rattle.refusals.specs.Verdicts.{unless, Verdict}
 use Rattle.records.specs.Eight.Codes.{block_size, code_length, blocks_in, code_blocks, step_of, whole_point}
 use Rattle.decoding.specs.Decode.{fvecs_length, check_decode}
 use Rattle.layers.specs.Code.{code8, eight_of}
@@ -31,7 +29,7 @@ use Rattle.records.specs.Laws.Parts.{cut-long, cut_at}
 use Rattle.decoding.specs.Laws.Recorded.{record-count, record-good, block-bytes, encode-decodes, encoded-good}
 use Rattle.records.specs.Eight.Vectors.{Hour, check_readings, units_taken, blocks_of, in_blocks}
 
-module _ (c : Settings) (steps : List ℤ) (h : Hour) (sound : Sound h) (out : List ℕ) (ok : check_encode (eight_of c) c steps h (length out) ≡ Accepted) where
+module _ (c : Settings) (steps : List ℤ) (h : Hour) (sound : Sound h) (out : List ℕ) (ok : check_encode (eight_of c) c steps h (length out) ≡ Ok tt) where
   abbrev q : ℕ
   q = nat_abs c.q
 
@@ -46,7 +44,7 @@ module _ (c : Settings) (steps : List ℤ) (h : Hour) (sound : Sound h) (out : L
   part i = take 8 (drop (8 * i) X)
 
   -- what it says that the hour was accepted
-  accepted : (encode_asked (eight_of c) c steps h (length out) ≡ Accepted) × (check_readings 0 h.readings ≡ Accepted) × AllFitted (code8 q m) steps (length (in_blocks X)) (in_blocks X)
+  accepted : (encode_asked (eight_of c) c steps h (length out) ≡ Ok tt) × (check_readings 0 h.readings ≡ Ok tt) × AllFitted (code8 q m) steps (length (in_blocks X)) (in_blocks X)
   accepted = (encode-accepted (eight_of c) c steps h (length out)).0 ok
 
   taken : EncodeTaken (eight_of c) c steps h (length out)
@@ -83,7 +81,7 @@ module _ (c : Settings) (steps : List ℤ) (h : Hour) (sound : Sound h) (out : L
   after_is = ap (λ (v : Verdict). written v (code_record (code8 q m) steps (in_blocks X)) out) ok
 
   -- the room is a record that decoding accepts, where there is room for its readings
-  pub room-accepted : (room : ℕ) → fvecs_length (blocks_of h) ≤ room → check_decode c steps after room ≡ Accepted
+  pub room-accepted : (room : ℕ) → fvecs_length (blocks_of h) ≤ room → check_decode c steps after room ≡ Ok tt
   unfolding encode_asked
   room-accepted room k =
       let roomy : Verdict = unless (leb (code_length m (blocks_of h)) (length out)) (Size 1) in let b : List ℕ = code_record (code8 q m) steps (in_blocks X) ++ rest in let coder = taken.taken.coder in
@@ -106,7 +104,7 @@ module _ (c : Settings) (steps : List ℤ) (h : Hour) (sound : Sound h) (out : L
 
 -- so in two accepted encodings with equal settings and steps, a block's bytes depend on its own eight readings alone
 pub room-bytes-same : (c : Settings) (steps : List ℤ) (h h' : Hour) (out out' : List ℕ) (i i' : ℕ) → Sound h → Sound h'
-    → check_encode (eight_of c) c steps h (length out) ≡ Accepted → check_encode (eight_of c) c steps h' (length out') ≡ Accepted → i < blocks_of h → i' < blocks_of h'
+    → check_encode (eight_of c) c steps h (length out) ≡ Ok tt → check_encode (eight_of c) c steps h' (length out') ≡ Ok tt → i < blocks_of h → i' < blocks_of h'
     → take 8 (drop (8 * i) (units_taken h.readings)) ≡ take 8 (drop (8 * i') (units_taken h'.readings))
     → let n = block_size (nat_abs c.m) in take n (drop (4 + n * i) (encoded_room (eight_of c) c steps h out)) ≡ take n (drop (4 + n * i') (encoded_room (eight_of c) c steps h' out'))
 room-bytes-same c steps h h' out out' i i' s s' ok ok' k k' e =

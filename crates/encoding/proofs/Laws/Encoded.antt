@@ -1,5 +1,5 @@
 -- The order of encoding, part by part, and what it says that the readings were taken.
-use Rattle.std.specs.Prelude.{◌≡◌, ℕ, ◌/◌, ◌≤◌, leb, ℤ, pos, length}
+use Rattle.std.specs.Prelude.{◌≡◌, ℕ, ◌/◌, ◌≤◌, leb, ℤ, pos, length, Ok, Err}
 use Rattle.std.proofs.Common.{sym, ◌∙◌}
 use Rattle.std.proofs.Math.Path.{ap, ap₂}
 use mathlib.Core.List.{List, [], ◌∷◌}
@@ -7,14 +7,12 @@ use borrow.Author.Tests.{leb-true}
 use Rattle.refusals.specs.declared.settings.Settings.{Settings}
 use Rattle.refusals.specs.declared.Refusal.{Refusal}
 use Rattle.refusals.specs.declared.Refusal.TheVariants.{Size, Record}
-use Rattle.refusals.specs.declared.Verdict.{Verdict}
-use Rattle.refusals.specs.declared.Verdict.TheVariants.{Accepted, Refused}
 use Rattle.refusals.specs.Answers.{valued, written}
 use Rattle.refusals.specs.Laws.Verdicts.{unless-accepted, first-accepted, first-last, first-append}
 use Rattle.refusals.specs.Limits.{blocks_most}
 use Rattle.refusals.specs.Settings.{check_settings}
 use Rattle.refusals.specs.Steps.{check_steps}
-use Rattle.refusals.specs.Verdicts.{unless, first_refusal}
+use Rattle.refusals.specs.Verdicts.{unless, first_refusal, Verdict}
 use Rattle.layers.specs.Code.{Code, size_of}
 use Rattle.records.specs.Codes.{code_length, CoderTaken}
 use Rattle.encoding.specs.Encode.{check_fits, code_record, encode_asked, check_encode, encoded, encoded_room}
@@ -58,13 +56,13 @@ module _ (C : Code) (c : Settings) (steps : List ℤ) (h : Hour) (room : ℕ) wh
   unfolding check_encode
   opened v e = first-append (asked ∷ readings ∷ []) (fitting ∷ []) ∙ ap (λ (w : Verdict). first_refusal (w ∷ fitting ∷ [])) e
 
-  pub encode-refused : (r : Refusal) → first_refusal (asked ∷ readings ∷ []) ≡ Refused r → check_encode C c steps h room ≡ Refused r
-  encode-refused r e = opened (Refused r) e
+  pub encode-refused : (r : Refusal) → first_refusal (asked ∷ readings ∷ []) ≡ Err r → check_encode C c steps h room ≡ Err r
+  encode-refused r e = opened (Err r) e
 
-  pub encode-last : first_refusal (asked ∷ readings ∷ []) ≡ Accepted → check_encode C c steps h room ≡ fitting
-  encode-last e = opened Accepted e ∙ first-last fitting
+  pub encode-last : first_refusal (asked ∷ readings ∷ []) ≡ Ok tt → check_encode C c steps h room ≡ fitting
+  encode-last e = opened (Ok tt) e ∙ first-last fitting
 
-  pub encode-taken : Sound (size_of C) h → first_refusal (asked ∷ readings ∷ []) ≡ Accepted → EncodeTaken C c steps h room
+  pub encode-taken : Sound (size_of C) h → first_refusal (asked ∷ readings ∷ []) ≡ Ok tt → EncodeTaken C c steps h room
   unfolding encode_asked
   encode-taken sound e =
       let roomy : Verdict = unless (leb (code_length C (blocks_of (size_of C) h)) room) (Size 1) in
@@ -79,7 +77,7 @@ module _ (C : Code) (c : Settings) (steps : List ℤ) (h : Hour) (room : ℕ) wh
       }
 
 -- a record whose frame was accepted
-pub asked-framed : (C : Code) (c : Settings) (steps : List ℤ) (b : List ℕ) (room : ℕ) → encode_asked C c steps (fvecs_hour (size_of C) b) room ≡ Accepted → Framed 4 (size_of C) 1 blocks_most b
+pub asked-framed : (C : Code) (c : Settings) (steps : List ℤ) (b : List ℕ) (room : ℕ) → encode_asked C c steps (fvecs_hour (size_of C) b) room ≡ Ok tt → Framed 4 (size_of C) 1 blocks_most b
 unfolding encode_asked
 asked-framed C c steps b room e =
     let h : Hour = fvecs_hour (size_of C) b in let roomy : Verdict = unless (leb (code_length C (blocks_of (size_of C) h)) room) (Size 1) in
@@ -87,7 +85,7 @@ asked-framed C c steps b room e =
     record-framed 4 (size_of C) 1 blocks_most b (unless-accepted _ (Record 0) (first-accepted h.frame (roomy ∷ []) l.1).0)
 
 -- what the core answers and writes is the whole answer and the room
-module _ (C : Code) (c : Settings) (steps : List ℤ) (h : Hour) (out : List ℕ) (e : first_refusal (encode_asked C c steps h (length out) ∷ check_readings 0 h.readings ∷ []) ≡ Accepted)
+module _ (C : Code) (c : Settings) (steps : List ℤ) (h : Hour) (out : List ℕ) (e : first_refusal (encode_asked C c steps h (length out) ∷ check_readings 0 h.readings ∷ []) ≡ Ok tt)
     (X : List ℤ) (same : units_taken h.readings ≡ X) (long : length X ≡ length h.readings) where
   abbrev n : ℕ
   n = size_of C
@@ -104,8 +102,8 @@ module _ (C : Code) (c : Settings) (steps : List ℤ) (h : Hour) (out : List ℕ
   encoded_room-is = ap₂ (λ (v : Verdict) (X : List ℤ). written v (code_record C steps (in_blocks (size_of C) X)) out) (sym last) (sym same)
 
 -- a refusal before the last check
-module _ (C : Code) (c : Settings) (steps : List ℤ) (h : Hour) (out : List ℕ) (r : Refusal) (e : first_refusal (encode_asked C c steps h (length out) ∷ check_readings 0 h.readings ∷ []) ≡ Refused r) where
-  pub encoded-refused : valued (Refused r) (pos 0) ≡ encoded C c steps h (length out)
+module _ (C : Code) (c : Settings) (steps : List ℤ) (h : Hour) (out : List ℕ) (r : Refusal) (e : first_refusal (encode_asked C c steps h (length out) ∷ check_readings 0 h.readings ∷ []) ≡ Err r) where
+  pub encoded-refused : valued (Err r) (pos 0) ≡ encoded C c steps h (length out)
   unfolding encoded
   encoded-refused = ap (λ (v : Verdict). valued v (pos (code_length C (blocks_of (size_of C) h)))) (sym (encode-refused C c steps h (length out) r e))
 

@@ -1,16 +1,15 @@
 -- `check_units_hour` is the list of checks, one after the other; the first two are made as one.
-use Rattle.std.proofs.Common.{◌≡◌, refl, sym, ◌∙◌, ap, ap₂, [], ◌∷◌, List, ℕ, ◌/◌, ℤ, Bool, nat_abs, length, arith}
+use Rattle.std.specs.Prelude.{Ok, Err}
+use Rattle.std.proofs.Common.{rules, ◌≡◌, refl, sym, ◌∙◌, ap, ap₂, [], ◌∷◌, List, ℕ, ◌/◌, ℤ, Bool, nat_abs, length, arith}
 use lib.Dec.{leb}
 use lib.ListN.{length-map}
 use Rattle.readings.specs.Taking.{measure_units}
 use Rattle.refusals.specs.declared.Refusal.TheVariants.{Size}
-use Rattle.refusals.specs.declared.Verdict.{Verdict}
-use Rattle.refusals.specs.declared.Verdict.TheVariants.{Accepted, Refused}
 use Rattle.refusals.specs.declared.settings.Settings.{Settings}
 use Rattle.refusals.specs.Laws.Verdicts.{first-last}
 use Rattle.refusals.specs.Settings.{check_settings}
 use Rattle.refusals.specs.Steps.{check_steps}
-use Rattle.refusals.specs.Verdicts.{unless, first_refusal}
+use Rattle.refusals.specs.Verdicts.{unless, first_refusal, Verdict}
 use Rattle.layers.specs.Code.{eight_of}
 use Rattle.records.specs.Eight.Asked.{coder-accepted}
 use Rattle.records.specs.Eight.Codes.{code_length}
@@ -35,31 +34,31 @@ module _ (s : Settings) (steps x : List ℤ) (room : ℕ) (coder : Verdict) (cod
   roomed m v l e = ap₂ (λ (m n : ℕ). unless (leb (code_length m (n / 8)) room) (Size 1)) (sym l) (length-map x measure_units) ∙ sym e
 
 pub layers-requires : goal.layers-requires
-layers-requires c = (coder-accepted c.args.s c.args.steps.now (sym c.check_coder.ensures ∙ c.in-Accepted.is)).allowed
+layers-requires c = (coder-accepted c.args.s c.args.steps.now (sym c.check_coder.ensures ∙ c.in_ok-check_coder.was)).allowed
 
 pub check_room-requires : goal.check_room-requires
 check_room-requires c =
-    let taken = coder-accepted c.args.s c.args.steps.now (sym c.check_coder.ensures ∙ c.in-Accepted.is) in
+    let taken = coder-accepted c.args.s c.args.steps.now (sym c.check_coder.ensures ∙ c.in_ok-check_coder.was) in
     let whole = blocks-whole 8 1 64 (length c.args.x.now) (sym c.whole_blocks.ensures ∙ c.if-whole_blocks.true) in
     (omega (arith, c.layers.ensures, taken.allowed.m-most), omega (arith, whole.few))
 
-pub returns-in-Refused : goal.returns-in-Refused
-returns-in-Refused c = let a = c.args in
-    sym (decided a.s a.steps.now a.x.now a.room _ c.check_coder.ensures _ _ _ c.in-Refused.is refl refl)
+pub returns-in_err-check_coder : goal.returns-in_err-check_coder
+returns-in_err-check_coder c = let refused : c.from_residual.result ≡ Err c.in_err-check_coder.field-0.0 = search rules in refused ∙ (let a = c.args in
+    sym (decided a.s a.steps.now a.x.now a.room _ c.check_coder.ensures _ _ _ c.in_err-check_coder.was refl refl))
 
-pub returns-in-Refused-check_room : goal.returns-in-Refused-check_room
-returns-in-Refused-check_room c = let a = c.args in
-    let framed : (units_hour a.x.now).frame ≡ Accepted = ap (λ (b : Bool). unless b (Size 0)) (sym c.whole_blocks.ensures ∙ c.if-whole_blocks.true) in
-    sym (decided a.s a.steps.now a.x.now a.room _ c.check_coder.ensures _ _ _ c.in-Accepted.is framed
-    (roomed a.s a.steps.now a.x.now a.room _ c.check_coder.ensures _ _ c.layers.ensures c.check_room.ensures ∙ c.in-Refused-check_room.is))
+pub returns-in_err-check_room : goal.returns-in_err-check_room
+returns-in_err-check_room c = let refused : c.from_residual-in_err-check_room.result ≡ Err c.in_err-check_room.field-0.0 = search rules in refused ∙ (let a = c.args in
+    let framed : (units_hour a.x.now).frame ≡ Ok tt = ap (λ (b : Bool). unless b (Size 0)) (sym c.whole_blocks.ensures ∙ c.if-whole_blocks.true) in
+    sym (decided a.s a.steps.now a.x.now a.room _ c.check_coder.ensures _ _ _ c.in_ok-check_coder.was framed
+    (roomed a.s a.steps.now a.x.now a.room _ c.check_coder.ensures _ _ c.layers.ensures c.check_room.ensures ∙ c.in_err-check_room.was)))
 
-pub returns-in-Accepted-check_room : goal.returns-in-Accepted-check_room
-returns-in-Accepted-check_room c = let a = c.args in
-    let framed : (units_hour a.x.now).frame ≡ Accepted = ap (λ (b : Bool). unless b (Size 0)) (sym c.whole_blocks.ensures ∙ c.if-whole_blocks.true) in
-    c.check_units.ensures ∙ sym (decided a.s a.steps.now a.x.now a.room _ c.check_coder.ensures _ _ _ c.in-Accepted.is framed
-    (roomed a.s a.steps.now a.x.now a.room _ c.check_coder.ensures _ _ c.layers.ensures c.check_room.ensures ∙ c.in-Accepted-check_room.is) ∙ first-last _)
+pub returns-in_ok-check_room : goal.returns-in_ok-check_room
+returns-in_ok-check_room c = let a = c.args in
+    let framed : (units_hour a.x.now).frame ≡ Ok tt = ap (λ (b : Bool). unless b (Size 0)) (sym c.whole_blocks.ensures ∙ c.if-whole_blocks.true) in
+    c.check_units.ensures ∙ sym (decided a.s a.steps.now a.x.now a.room _ c.check_coder.ensures _ _ _ c.in_ok-check_coder.was framed
+    (roomed a.s a.steps.now a.x.now a.room _ c.check_coder.ensures _ _ c.layers.ensures c.check_room.ensures ∙ c.in_ok-check_room.was) ∙ first-last _)
 
 pub returns-else-whole_blocks : goal.returns-else-whole_blocks
 returns-else-whole_blocks c = let a = c.args in
-    let framed : (units_hour a.x.now).frame ≡ Refused (Size 0) = ap (λ (b : Bool). unless b (Size 0)) (sym c.whole_blocks.ensures ∙ c.if-whole_blocks.false) in
-    sym (decided a.s a.steps.now a.x.now a.room _ c.check_coder.ensures _ _ _ c.in-Accepted.is framed refl)
+    let framed : (units_hour a.x.now).frame ≡ Err (Size 0) = ap (λ (b : Bool). unless b (Size 0)) (sym c.whole_blocks.ensures ∙ c.if-whole_blocks.false) in
+    sym (decided a.s a.steps.now a.x.now a.room _ c.check_coder.ensures _ _ _ c.in_ok-check_coder.was framed refl)

@@ -1,4 +1,5 @@
 -- `code_blocks` codes block after block: after i turns the bytes of the first i stand in front, and the blocks left give the same verdict as all.
+use Rattle.std.specs.Prelude.{Err}
 use Rattle.std.proofs.Common.{◌≡◌, List, ◌∷◌, ◌++◌, ℕ, ◌+◌, ◌*◌, ◌-◌, ◌^◌, ◌<◌, ◌≤◌, ℤ, nat_abs, sym, ◌∙◌, ap, ap₂, subst, add-one, take, drop, length, arith, rules}
 use borrow.Rule.Slice.PartMut.{put_mid}
 use mir.Facts.{to_z-of_z}
@@ -13,7 +14,6 @@ use Rattle.blocks.specs.Laws.Theorems.{tried-block8}
 use Rattle.blocks.specs.Limits.{UsedSteps}
 use Rattle.blocks.specs.Trials.{first_fitting, block_code, tried_room}
 use Rattle.refusals.specs.declared.Refusal.TheVariants.{Overload}
-use Rattle.refusals.specs.declared.Verdict.TheVariants.{Refused}
 use Rattle.records.specs.Eight.Codes.{block_size}
 use Rattle.records.specs.Laws.Parts.{part-ends, cut-next, cut-long}
 use Rattle.encoding.specs.Encode.{check_fits, code_bytes}
@@ -42,7 +42,7 @@ module _ (q : ℤ) (m k i : ℕ) (steps X : List ℤ) (h : i < k) where
     place_is : t ≡ first_fitting e8 nearest (nat_abs q) m steps block
     place_is = t-is ∙ ap (λ (j : ℕ). first_fitting e8 nearest (nat_abs q) m steps (take j (drop (8 * i) X))) eight
 
-    none-fits : length steps ≤ t → check_fits C steps i (block ∷ rest) ≡ Refused (Overload i)
+    none-fits : length steps ≤ t → check_fits C steps i (block ∷ rest) ≡ Err (Overload i)
     none-fits l = fits-none C steps i block rest (omega (arith, place_is))
 
     one-fits : t < length steps → check_fits C steps i (block ∷ rest) ≡ check_fits C steps (i + 1) rest
@@ -62,25 +62,24 @@ module _ (q : ℤ) (m k i : ℕ) (steps X : List ℤ) (h : i < k) where
         ∙ ap₂ (λ (w : List ℕ) (j : ℕ). w ++ drop j found) (sym (code_bytes-more (nat_abs q) m steps i X)) next
 
 pub slice_bounds-code_block-end-in-loop-i : goal.slice_bounds-code_block-end-in-loop-i
-slice_bounds-code_block-end-in-loop-i c = omega (arith, part-ends c.block_size-n.result c.loop-i.i c.args.k c.loop-i-test.true, c.loop-i.invariant.1, subst (λ (t : ℕ). t * c.args.k ≤ length c.args.out.now) (sym c.block_size-n.ensures) c.requires.5)
+slice_bounds-code_block-end-in-loop-i c = omega (arith, part-ends c.block_size-n.result c.loop-i.i c.args.k c.loop-i-test.true, subst (λ (t : ℕ). t * c.args.k ≤ length c.args.out.now) (sym c.block_size-n.ensures) c.requires.5)
 
 pub returns-then-code_block-steps-clause-answer : goal.returns-then-code_block-steps-clause-answer
 returns-then-code_block-steps-clause-answer c = let a = c.args in
     let t-is = simp (to_z-of_z, c.ranges.q) at c.code_block.ensures.answer in
-    sym (opened a.q a.m a.k c.loop-i.i a.steps.now a.x.now c.loop-i-test.true (simp (to_z-of_z, c.ranges.q) at c.loop-i.invariant.2)
+    sym (opened a.q a.m a.k c.loop-i.i a.steps.now a.x.now c.loop-i-test.true (simp (to_z-of_z, c.ranges.q) at c.loop-i.invariant.1)
     ∙ none-fits a.q a.m a.k c.loop-i.i a.steps.now a.x.now c.loop-i-test.true _ t-is c.if-code_block-steps.true)
 
 pub loop-i-preserved : goal.loop-i-preserved
 loop-i-preserved c = let a = c.args in
     let t-is = simp (to_z-of_z, c.ranges.q) at c.code_block.ensures.answer in (
-      omega arith,
       search rules,
       simp (to_z-of_z, c.ranges.q) (
-          opened a.q a.m a.k c.loop-i.i a.steps.now a.x.now c.loop-i-test.true (simp (to_z-of_z, c.ranges.q) at c.loop-i.invariant.2)
+          opened a.q a.m a.k c.loop-i.i a.steps.now a.x.now c.loop-i-test.true (simp (to_z-of_z, c.ranges.q) at c.loop-i.invariant.1)
           ∙ one-fits a.q a.m a.k c.loop-i.i a.steps.now a.x.now c.loop-i-test.true _ t-is c.if-code_block-steps.false
           ),
       simp (to_z-of_z, c.ranges.q) (
           more-is a.q a.m a.k c.loop-i.i a.steps.now a.x.now c.loop-i-test.true _ t-is c.requires.0 c.requires.1 c.requires.2 c.if-code_block-steps.false
-          _ c.block_size-n.ensures a.out.now c.loop-i.out _ _ (simp (to_z-of_z, c.ranges.q) at c.loop-i.invariant.3) (simp (to_z-of_z, c.ranges.q) at c.code_block.ensures.room)
+          _ c.block_size-n.ensures a.out.now c.loop-i.out _ _ (simp (to_z-of_z, c.ranges.q) at c.loop-i.invariant.2) (simp (to_z-of_z, c.ranges.q) at c.code_block.ensures.room)
           ),
     )

@@ -1,14 +1,13 @@
 -- `encode` answers what is refused before coding, and else what the core answers on the units that were taken.
+use Rattle.std.specs.Prelude.{Ok}
 use Rattle.std.proofs.Common.{◌≡◌, List, [], ◌∷◌, ◌++◌, ℕ, ◌-◌, ◌/◌, ◌≤◌, ℤ, pos, nat_abs, refl, sym, ◌∙◌, ap, ap₂, subst, subst₂, take, length, length-append, arith, rules}
 use lib.Seq.{take_at}
 use mir.Syntax.{w64}
 use mir.Val.{to_z, of_z}
 use Rattle.readings.specs.Words.{word_at}
 use Rattle.refusals.specs.declared.settings.Settings.{Settings}
-use Rattle.refusals.specs.declared.Verdict.{Verdict}
-use Rattle.refusals.specs.declared.Verdict.TheVariants.{Accepted}
 use Rattle.refusals.specs.Answers.{valued, written}
-use Rattle.refusals.specs.Verdicts.{first_refusal}
+use Rattle.refusals.specs.Verdicts.{first_refusal, Verdict}
 use Rattle.layers.specs.Code.{code8, eight_of}
 use Rattle.records.specs.Eight.Codes.{Coder, code_length}
 use Rattle.records.proofs.Eight.Hours.{fvecs-sound, fvecs-count}
@@ -18,8 +17,8 @@ use Rattle.encoding.proofs.Laws.Encoded.{EncodeTaken, asked-framed, encode-taken
 use Rattle.encoding.proofs.encode.Goals as goal
 
 -- where the frame is accepted, and the readings were all taken, to the front of a room
-module _ (s : Settings) (steps : List ℤ) (b : List ℕ) (room : ℕ) (asked : encode_asked (eight_of s) s steps (fvecs_hour b) room ≡ Accepted) (readings : check_readings 0 (fvecs_hour b).readings ≡ Accepted) where
-  accepted : first_refusal (encode_asked (eight_of s) s steps (fvecs_hour b) room ∷ check_readings 0 (fvecs_hour b).readings ∷ []) ≡ Accepted
+module _ (s : Settings) (steps : List ℤ) (b : List ℕ) (room : ℕ) (asked : encode_asked (eight_of s) s steps (fvecs_hour b) room ≡ Ok tt) (readings : check_readings 0 (fvecs_hour b).readings ≡ Ok tt) where
+  accepted : first_refusal (encode_asked (eight_of s) s steps (fvecs_hour b) room ∷ check_readings 0 (fvecs_hour b).readings ∷ []) ≡ Ok tt
   accepted = ap₂ (λ (v w : Verdict). first_refusal (v ∷ w ∷ [])) asked readings
 
   taken : EncodeTaken (eight_of s) s steps (fvecs_hour b) room
@@ -36,24 +35,24 @@ module _ (s : Settings) (steps : List ℤ) (b : List ℕ) (room : ℕ) (asked : 
     front-is = ap (take (n - 0)) x-is ∙ take_at (units_taken (fvecs_hour b).readings) rest (n - 0) (omega (arith, long))
 
 pub word_at-n-requires : goal.word_at-n-requires
-word_at-n-requires c = let a = c.args in (asked-framed (eight_of a.s) a.s a.steps.now a.hour.now (length a.out.now) (sym c.check_fvecs_hour.ensures ∙ c.in-Accepted.is)).there
+word_at-n-requires c = let a = c.args in (asked-framed (eight_of a.s) a.s a.steps.now a.hour.now (length a.out.now) (sym c.check_fvecs_hour.ensures ∙ c.in_ok-check_fvecs_hour.was)).there
 
 pub take_readings-requires : goal.take_readings-requires
-take_readings-requires c = let a = c.args in let f = asked-framed (eight_of a.s) a.s a.steps.now a.hour.now (length a.out.now) (sym c.check_fvecs_hour.ensures ∙ c.in-Accepted.is) in
+take_readings-requires c = let a = c.args in let f = asked-framed (eight_of a.s) a.s a.steps.now a.hour.now (length a.out.now) (sym c.check_fvecs_hour.ensures ∙ c.in_ok-check_fvecs_hour.was) in
     (c.word_at-n.ensures, omega (arith, c.word_at-n.ensures, f.complete), omega (arith, c.word_at-n.ensures, f.whole.times, f.whole.few))
 
 pub slice_bounds-put_record-end : goal.slice_bounds-put_record-end
 slice_bounds-put_record-end c = let a = c.args in
-    enough a.s a.steps.now a.hour.now (length a.out.now) (sym c.check_fvecs_hour.ensures ∙ c.in-Accepted.is) (sym c.take_readings.ensures.answer ∙ c.in-Accepted-take_readings.is) _ c.word_at-n.ensures _ _ c.take_readings.ensures.room
+    enough a.s a.steps.now a.hour.now (length a.out.now) (sym c.check_fvecs_hour.ensures ∙ c.in_ok-check_fvecs_hour.was) (sym c.take_readings.ensures.answer ∙ c.in_ok-take_readings.was) _ c.word_at-n.ensures _ _ c.take_readings.ensures.room
 
 pub base-requires : goal.base-requires
-base-requires c = let a = c.args in (taken a.s a.steps.now a.hour.now (length a.out.now) (sym c.check_fvecs_hour.ensures ∙ c.in-Accepted.is) (sym c.take_readings.ensures.answer ∙ c.in-Accepted-take_readings.is)).taken.allowed
+base-requires c = let a = c.args in (taken a.s a.steps.now a.hour.now (length a.out.now) (sym c.check_fvecs_hour.ensures ∙ c.in_ok-check_fvecs_hour.was) (sym c.take_readings.ensures.answer ∙ c.in_ok-take_readings.was)).taken.allowed
 
 pub layers-requires : goal.layers-requires
-layers-requires c = let a = c.args in (taken a.s a.steps.now a.hour.now (length a.out.now) (sym c.check_fvecs_hour.ensures ∙ c.in-Accepted.is) (sym c.take_readings.ensures.answer ∙ c.in-Accepted-take_readings.is)).taken.allowed
+layers-requires c = let a = c.args in (taken a.s a.steps.now a.hour.now (length a.out.now) (sym c.check_fvecs_hour.ensures ∙ c.in_ok-check_fvecs_hour.was) (sym c.take_readings.ensures.answer ∙ c.in_ok-take_readings.was)).taken.allowed
 
 pub put_record-requires : goal.put_record-requires
-put_record-requires c = let a = c.args in let ok = sym c.check_fvecs_hour.ensures ∙ c.in-Accepted.is in let all = sym c.take_readings.ensures.answer ∙ c.in-Accepted-take_readings.is in
+put_record-requires c = let a = c.args in let ok = sym c.check_fvecs_hour.ensures ∙ c.in_ok-check_fvecs_hour.was in let all = sym c.take_readings.ensures.answer ∙ c.in_ok-take_readings.was in
     let e = taken a.s a.steps.now a.hour.now (length a.out.now) ok all in
     let x-is = front-is a.s a.steps.now a.hour.now (length a.out.now) ok all _ c.word_at-n.ensures _ _ c.take_readings.ensures.room in
     let q-is : to_z w64 (of_z w64 c.base.result) ≡ c.base.result = search rules in (
@@ -63,23 +62,23 @@ put_record-requires c = let a = c.args in let ok = sym c.check_fvecs_hour.ensure
           (subst (λ (n : ℕ). code_length (nat_abs a.s.m) (n / 8) ≤ length a.out.now) (sym e.long) e.fits),
     )
 
-pub returns-in-Refused : goal.returns-in-Refused
-returns-in-Refused c = let a = c.args in let h = fvecs_hour a.hour.now in
-    let e = ap (λ (w : Verdict). first_refusal (w ∷ check_readings 0 h.readings ∷ [])) (sym c.check_fvecs_hour.ensures ∙ c.in-Refused.is) in record {
-      answer = c.refused.ensures ∙ encoded-refused (eight_of a.s) a.s a.steps.now h a.out.now _ e;
+pub returns-in_err-check_fvecs_hour : goal.returns-in_err-check_fvecs_hour
+returns-in_err-check_fvecs_hour c = let a = c.args in let h = fvecs_hour a.hour.now in
+    let e = ap (λ (w : Verdict). first_refusal (w ∷ check_readings 0 h.readings ∷ [])) (sym c.check_fvecs_hour.ensures ∙ c.in_err-check_fvecs_hour.was) in record {
+      answer = (search rules) ∙ encoded-refused (eight_of a.s) a.s a.steps.now h a.out.now _ e;
       room = encoded_room-refused (eight_of a.s) a.s a.steps.now h a.out.now _ e;
     }
 
-pub returns-in-Refused-take_readings : goal.returns-in-Refused-take_readings
-returns-in-Refused-take_readings c = let a = c.args in let h = fvecs_hour a.hour.now in
-    let e = ap₂ (λ (v w : Verdict). first_refusal (v ∷ w ∷ [])) (sym c.check_fvecs_hour.ensures ∙ c.in-Accepted.is) (sym c.take_readings.ensures.answer ∙ c.in-Refused-take_readings.is) in record {
-      answer = c.refused-in-Refused-take_readings.ensures ∙ encoded-refused (eight_of a.s) a.s a.steps.now h a.out.now _ e;
+pub returns-in_err-take_readings : goal.returns-in_err-take_readings
+returns-in_err-take_readings c = let a = c.args in let h = fvecs_hour a.hour.now in
+    let e = ap₂ (λ (v w : Verdict). first_refusal (v ∷ w ∷ [])) (sym c.check_fvecs_hour.ensures ∙ c.in_ok-check_fvecs_hour.was) (sym c.take_readings.ensures.answer ∙ c.in_err-take_readings.was) in record {
+      answer = (search rules) ∙ encoded-refused (eight_of a.s) a.s a.steps.now h a.out.now _ e;
       room = encoded_room-refused (eight_of a.s) a.s a.steps.now h a.out.now _ e;
     }
 
-pub returns-in-Accepted-take_readings : goal.returns-in-Accepted-take_readings
-returns-in-Accepted-take_readings c = let a = c.args in let steps = a.steps.now in let out = a.out.now in let h = fvecs_hour a.hour.now in let X = units_taken h.readings in
-    let ok = sym c.check_fvecs_hour.ensures ∙ c.in-Accepted.is in let all = sym c.take_readings.ensures.answer ∙ c.in-Accepted-take_readings.is in
+pub returns : goal.returns
+returns c = let a = c.args in let steps = a.steps.now in let out = a.out.now in let h = fvecs_hour a.hour.now in let X = units_taken h.readings in
+    let ok = sym c.check_fvecs_hour.ensures ∙ c.in_ok-check_fvecs_hour.was in let all = sym c.take_readings.ensures.answer ∙ c.in_ok-take_readings.was in
     let e = taken a.s steps a.hour.now (length out) ok all in let good = accepted a.s steps a.hour.now (length out) ok all in
     let x-is = front-is a.s steps a.hour.now (length out) ok all _ c.word_at-n.ensures _ _ c.take_readings.ensures.room in
     let q-is : to_z w64 (of_z w64 c.base.result) ≡ c.base.result = search rules in

@@ -19,4 +19,4 @@ more-is code found out part n k i h l e p =
 
 pub loop-i-preserved : goal.loop-i-preserved
 loop-i-preserved c = let a = c.args in
-    (omega arith, search rules, more-is a.code.now a.out.now c.loop-i.out _ a.n a.k c.loop-i.i c.loop-i-test.true c.requires.0 c.loop-i.invariant.2 c.put_block.ensures)
+    (search rules, more-is a.code.now a.out.now c.loop-i.out _ a.n a.k c.loop-i.i c.loop-i-test.true c.requires.0 c.loop-i.invariant.1 c.copy_from_slice.ensures.after)

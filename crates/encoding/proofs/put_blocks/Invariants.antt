@@ -1,12 +1,9 @@
 -- `put_blocks` writes block after block, each in its own part: after i turns the first i stand in front.
 use mathlib.Core.Path.{◌≡◌}
 use mathlib.Core.List.{◌++◌}
-use Prim.Native.Nat.{◌*◌, ◌-◌, ◌≤◌}
+use Prim.Native.Nat.{◌*◌}
 use lib.ListN.{length, take, drop}
 use Rattle.encoding.proofs.put_blocks.Given as goal
 
 abbrev pub invariant-loop-i : goal.invariant-loop-i
-invariant-loop-i l = (l.i ≤ l.k) × (length l.out ≡ length l.initial.out) × (l.out ≡ take (l.n * l.i) l.code ++ drop (l.n * l.i) l.initial.out)
-
-abbrev pub decreases-loop-i : goal.decreases-loop-i
-decreases-loop-i l = l.k - l.i
+invariant-loop-i l = (length l.out ≡ length l.initial.out) × (l.out ≡ take (l.n * l.i) l.code ++ drop (l.n * l.i) l.initial.out)

@@ -1,11 +1,11 @@
 -- `put_record` codes the blocks aside, and writes the dimension and the blocks only where each has a step that fits.
+use Rattle.std.specs.Prelude.{Ok}
+use Rattle.refusals.specs.Verdicts.{Verdict}
 use Rattle.std.proofs.Common.{◌≡◌, List, ◌++◌, ℕ, ◌+◌, ◌*◌, ◌-◌, ◌/◌, ◌≤◌, ℤ, nat_abs, refl, sym, ◌∙◌, ap, ap₂, take, drop, length, length-take, length-drop, mul-le-mul, arith}
 use borrow.Rule.Slice.PartMut.{put_mid}
 use lib.Seq.{take_at}
 use mir.Facts.{to_z-of_z}
 use Rattle.readings.specs.Words.{bytes_of}
-use Rattle.refusals.specs.declared.Verdict.{Verdict}
-use Rattle.refusals.specs.declared.Verdict.TheVariants.{Accepted}
 use Rattle.refusals.specs.Answers.{written}
 use Rattle.layers.specs.Code.{Code, code8}
 use Rattle.records.specs.Eight.Codes.{Coder, block_size, code_length}
@@ -41,7 +41,7 @@ module _ (q : ℤ) (m : ℕ) (steps X : List ℤ) (coder : Coder q m steps) (uni
   -- they stand at the front of what was coded aside, and are written after the dimension
   module _ (n : ℕ) (n-is : n ≡ block_size m) where
     all-is : (code first part found : List ℕ) (rest : List ℕ) → code ≡ bytes ++ rest → first ≡ bytes_of (n * k) ++ drop 4 found
-        → part ≡ take (n * k) code ++ drop (n * k) (take (length first - 4) (drop 4 first)) → (v : Verdict) → v ≡ Accepted
+        → part ≡ take (n * k) code ++ drop (n * k) (take (length first - 4) (drop 4 first)) → (v : Verdict) → v ≡ Ok tt
         → put_mid 4 (length first - 4) first part ≡ written v (code_record C steps (in_blocks X)) found
     all-is code first part found rest code-is first-is part-is v e =
         let size : n * k ≡ block_size m * k = ap (λ (j : ℕ). j * k) n-is in
@@ -72,7 +72,7 @@ pub put_blocks-requires : goal.put_blocks-requires
 put_blocks-requires c = let h = few c.args.q c.args.m c.args.steps.now c.args.x.now c.requires.0 c.requires.1 in let e = ap (λ (j : ℕ). j * (length c.args.x.now / 8)) c.block_size-n.ensures in
     (omega (arith, h, e), simp (length-take, length-drop) (omega (arith, h, e, c.requires.2, ap length c.put_word.ensures)))
 
-pub returns-in-Accepted-clause-room : goal.returns-in-Accepted-clause-room
-returns-in-Accepted-clause-room c = let a = c.args in
-    all-is a.q a.m a.steps.now a.x.now c.requires.0 c.requires.1 _ c.block_size-n.ensures _ c.put_word.new.b _ a.out.now _ (simp (to_z-of_z, c.ranges.q) at c.code_blocks.ensures.room c.in-Accepted.is) c.put_word.ensures c.put_blocks.ensures
-    _ (sym (simp (to_z-of_z, c.ranges.q) at c.code_blocks.ensures.answer) ∙ c.in-Accepted.is)
+pub returns-clause-room : goal.returns-clause-room
+returns-clause-room c = let a = c.args in
+    all-is a.q a.m a.steps.now a.x.now c.requires.0 c.requires.1 _ c.block_size-n.ensures _ c.put_word.new.b _ a.out.now _ (simp (to_z-of_z, c.ranges.q) at c.code_blocks.ensures.room c.in_ok-code_blocks.was) c.put_word.ensures c.put_blocks.ensures
+    _ (sym (simp (to_z-of_z, c.ranges.q) at c.code_blocks.ensures.answer) ∙ c.in_ok-code_blocks.was)

@@ -1,12 +1,11 @@
 -- Coding block by block: which block is refused, and the bytes so far.
-use Rattle.std.specs.Prelude.{◌≡◌, Bool, cond, List, [], ◌∷◌, ◌++◌, ℕ, suc, ◌+◌, ◌*◌, ◌<◌, ◌≤◌, ℤ, length, take, drop}
+use Rattle.std.specs.Prelude.{◌≡◌, Bool, cond, List, [], ◌∷◌, ◌++◌, ℕ, suc, ◌+◌, ◌*◌, ◌<◌, ◌≤◌, ℤ, length, take, drop, Err}
 use Rattle.std.proofs.Common.{◌∙◌, ap, arith, lt-ltb, le-ltb, length-append}
 use Rattle.blocks.specs.Laws.Theorems.{block-long8}
 use Rattle.blocks.specs.Trials.{first_fitting, block_code}
 use Rattle.layers.specs.Digits.{cut}
 use Rattle.layers.specs.E8.{e8, nearest}
 use Rattle.refusals.specs.declared.Refusal.TheVariants.{Overload}
-use Rattle.refusals.specs.declared.Verdict.TheVariants.{Refused}
 use Rattle.layers.specs.Code.{Code, code8}
 use Rattle.records.specs.Codes.{block_bytes, code_length}
 use Rattle.encoding.specs.Encode.{check_fits, code_bytes, code_record}
@@ -18,11 +17,11 @@ module _ (C : Code) (steps : List ℤ) (k : ℕ) (X : List ℤ) (l : List (List 
 
   -- a block that a listed step fits, and then the rest
   pub fits_next : T < length steps → check_fits C steps k (X ∷ l) ≡ check_fits C steps (suc k) l
-  fits_next h = ap (λ (b : Bool). cond b (check_fits C steps (suc k) l) (Refused (Overload k))) (lt-ltb T (length steps) h)
+  fits_next h = ap (λ (b : Bool). cond b (check_fits C steps (suc k) l) (Err (Overload k))) (lt-ltb T (length steps) h)
 
   -- or that none does
-  pub fits-none : length steps ≤ T → check_fits C steps k (X ∷ l) ≡ Refused (Overload k)
-  fits-none h = ap (λ (b : Bool). cond b (check_fits C steps (suc k) l) (Refused (Overload k))) (le-ltb T (length steps) h)
+  pub fits-none : length steps ≤ T → check_fits C steps k (X ∷ l) ≡ Err (Overload k)
+  fits-none h = ap (λ (b : Bool). cond b (check_fits C steps (suc k) l) (Err (Overload k))) (le-ltb T (length steps) h)
 
 -- the bytes of i blocks, and of one more
 module _ (q m : ℕ) (steps : List ℤ) where

@@ -1,11 +1,9 @@
 -- What it says that the nearest point was asked for and not refused.
-use Rattle.std.specs.Prelude.{◌≡◌, ◌&&◌, List, [], ◌∷◌, ℕ, ◌-◌, ◌^◌, ◌≤◌, eqb, ℤ, pos, nat_abs, ◌*ℤ◌, length, ◌≤ℤ◌, ◌<ℤ◌}
+use Rattle.std.specs.Prelude.{◌≡◌, ◌&&◌, List, [], ◌∷◌, ℕ, ◌-◌, ◌^◌, ◌≤◌, eqb, ℤ, pos, nat_abs, ◌*ℤ◌, length, ◌≤ℤ◌, ◌<ℤ◌, Ok}
 use Rattle.std.proofs.Math.Decide.{dec_le}
 use Rattle.std.proofs.Common.{arith, eqb-true}
 use Rattle.std.proofs.Math.ListN.{get_or-eq_default}
 use Rattle.refusals.specs.declared.Refusal.TheVariants.{Size, Point}
-use Rattle.refusals.specs.declared.Verdict.{Verdict}
-use Rattle.refusals.specs.declared.Verdict.TheVariants.{Accepted}
 use Rattle.integers.specs.Laws.Floors.{abs-pos}
 use Rattle.integers.specs.Laws.Linear.{Z}
 use Rattle.integers.specs.Laws.Sizes.{abs-from, abs-times}
@@ -13,7 +11,7 @@ use Rattle.integers.specs.Laws.Tests.{and-true, within-true, between, sized-smal
 use Rattle.integers.specs.Vectors.{«at», Sized, within, small}
 use Rattle.refusals.specs.Laws.Verdicts.{unless-accepted, first-accepted}
 use Rattle.refusals.specs.Limits.{step_most, point_most}
-use Rattle.refusals.specs.Verdicts.{unless}
+use Rattle.refusals.specs.Verdicts.{unless, Verdict}
 use Rattle.lattice.specs.Answers.{check_nearest}
 use Rattle.lattice.specs.Computed.{nearest_point}
 use Rattle.lattice.specs.Laws.Theorems.{nearest8, nearest8-close}
@@ -24,7 +22,7 @@ pub record Asked (d : List ℤ) (s : ℤ) : Type 0 where
   pub least : pos 1 ≤ℤ s
   pub most : nat_abs s ≤ step_most
 
-pub accepted-asked : (d : List ℤ) (s : ℤ) → check_nearest d s ≡ Accepted → Asked d s
+pub accepted-asked : (d : List ℤ) (s : ℤ) → check_nearest d s ≡ Ok tt → Asked d s
 unfolding check_nearest
 accepted-asked d s e =
     let eight : Verdict = unless (eqb (length d) 8) (Size 0) in let limits : Verdict = unless (small point_most d && within (pos 1) (pos step_most) s) Point in

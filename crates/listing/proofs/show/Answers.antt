@@ -1,46 +1,15 @@
--- `show` shows the block that a well-formed text asks for, and refuses a malformed text.
-use Rattle.std.proofs.Common.{◌≡◌, ◌∙◌, sym, ap, true, arith, List, ℤ, ℕ, ◌-◌, ◌≤◌, length, take}
-use Rattle.std.proofs.Math.Path.{ap₂}
+-- `show` gives what is put on an empty page: that page's room is the lent one.
+use Rattle.std.proofs.Common.{◌≡◌, ◌∙◌, sym, ap₂, arith, rules, List, ℕ, ◌++◌, length, drop}
 use Rattle.std.proofs.lemmas.List.Edits.{sets}
-use Rattle.integers.specs.Vectors.{zeros}
-use Rattle.refusals.specs.declared.settings.Settings.{Settings}
-use Rattle.texts.specs.declared.Asked.TheVariants.{Block}
-use Rattle.texts.specs.Answers.{text_told}
-use Rattle.texts.specs.Laws.Asked.{told-block, told-malformed}
 use Rattle.listing.specs.Laws.Lengths.{shown-most}
-use Rattle.listing.specs.Laws.Order.{text-malformed, text-formed}
-use Rattle.texts.specs.Laws.Rooms.{sets-front, take-front}
-use Rattle.texts.specs.Laws.Texts.{formed-counts}
-use Rattle.listing.specs.Listing.{block_shown, shown}
-use Rattle.texts.specs.Text.{line_of, numbers, settings_in, well_formed}
+use Rattle.listing.specs.Listing.{shown}
+use Rattle.texts.specs.Laws.Rooms.{sets-front}
 use Rattle.listing.proofs.show.Goals as goal
 
--- a text that asks for a block: the steps and X as they are lent
-module _ (t : List ℕ) (s : Settings) (n : ℕ) (e : text_told t ≡ Block s n) where
-  told : (well_formed t ≡ true) × (settings_in (line_of t 0) ≡ s) × (length (numbers (line_of t 1)) ≡ n)
-  told = told-block t s n e
-
-  counts : (length (numbers (line_of t 1)) ≤ 2048) × (length (numbers (line_of t 2)) ≡ 8)
-  counts = formed-counts t told.0
-
-  steps-are : (x : List ℤ) → x ≡ sets (zeros 2048) 0 (numbers (line_of t 1)) → take (n - 0) x ≡ numbers (line_of t 1)
-  steps-are x h = let k : n - 0 ≡ length (numbers (line_of t 1)) = omega (arith, told.2) in ap₂ take k h ∙ take-front (zeros 2048) (numbers (line_of t 1)) (omega (arith, counts.0))
-
-  X-is : (x : List ℤ) → x ≡ sets (zeros 2048) 0 (numbers (line_of t 2)) → take 8 x ≡ numbers (line_of t 2)
-  X-is x h = ap₂ take (sym counts.1) h ∙ take-front (zeros 2048) (numbers (line_of t 2)) (omega (arith, counts.1))
-
-pub slice_bounds-show_block-end : goal.slice_bounds-show_block-end
-slice_bounds-show_block-end c = let e = sym c.in-Block.ensures.answer in omega (arith, (told c.args.given.now _ _ e).2, (counts c.args.given.now _ _ e).0)
-
-pub returns-in-Malformed : goal.returns-in-Malformed
-returns-in-Malformed c =
-    let t = c.args.given.now in let out = c.args.out.now in let same = text-malformed t (told-malformed t (sym c.in-Malformed.ensures.answer)) in
-    record { answer = c.put_refusal.ensures.answer ∙ ap length same; room = c.put_refusal.ensures.room ∙ ap (sets out 0) same ∙ sets-front out (shown t) (omega (arith, shown-most t, c.requires)) }
-
-pub returns-in-Block : goal.returns-in-Block
-returns-in-Block c =
-    let t = c.args.given.now in let out = c.args.out.now in let s = c.in-Block.s in let n = c.in-Block.n in let e = sym c.in-Block.ensures.answer in
-    let formed = told t s n e in let rooms = c.read_text.ensures.room formed.0 in let steps = numbers (line_of t 1) in let X = numbers (line_of t 2) in
-    let same : block_shown s (take (n - 0) c.read_text.new.steps) (take 8 c.read_text.new.x) ≡ shown t
-    = ap₂ (block_shown s) (steps-are t s n e _ rooms.0) (X-is t s n e _ rooms.1) ∙ ap (λ (c : Settings). block_shown c steps X) (sym formed.1) ∙ text-formed t formed.0 in
-    record { answer = c.show_block.ensures.answer ∙ ap length same; room = c.show_block.ensures.room ∙ ap (sets out 0) same ∙ sets-front out (shown t) (omega (arith, shown-most t, c.requires)) }
+pub returns : goal.returns
+returns c = let t = c.args.given.now in let p = c.new-page.ensures in let puts = c.show_text.ensures in
+    let put : c.show_text.new.page.room.now ≡ shown t ++ drop (length (shown t)) c.args.out.now
+    = puts.room ∙ ap₂ (λ (l : List ℕ) (j : ℕ). sets l j (shown t)) p.room p.used ∙ sets-front c.args.out.now (shown t) (omega (arith, shown-most t, c.requires)) in record {
+      answer = omega (arith, puts.used, p.used);
+      room = rw (sym put) (search rules);
+    }

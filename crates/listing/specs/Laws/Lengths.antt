@@ -1,5 +1,5 @@
 -- What is printed is short: no number of it has more than ten digits, so that 1,024 bytes hold it.
-use Rattle.std.specs.Prelude.{◌≡◌, Bool, true, false, List, [], ◌∷◌, ◌++◌, map, ℕ, zero, suc, ◌+◌, ◌*◌, ◌-◌, ◌^◌, ◌≤◌, ℤ, pos, negsuc, nat_abs, length, get_or, drop}
+use Rattle.std.specs.Prelude.{◌≡◌, Bool, true, false, List, [], ◌∷◌, ◌++◌, map, ℕ, zero, suc, ◌+◌, ◌*◌, ◌-◌, ◌^◌, ◌≤◌, ℤ, pos, negsuc, nat_abs, length, get_or, drop, Ok, Err}
 use Rattle.std.proofs.Math.Path.{refl}
 use Rattle.std.proofs.Common.{◌∙◌, ap, subst, arith, length-append}
 use Rattle.std.proofs.lemmas.List.{length-map}
@@ -12,9 +12,7 @@ use Rattle.layers.specs.Laws.Rows.{cut-layers}
 use Rattle.refusals.specs.declared.settings.Settings.{Settings}
 use Rattle.refusals.specs.declared.Refusal.{Refusal}
 use Rattle.refusals.specs.declared.Refusal.TheVariants.{Settings as BadSettings, Steps, Size, Missing, OutOfRange, Overload, Byte, Table, Point, Record, EmptyStore}
-use Rattle.refusals.specs.declared.Verdict.{Verdict}
-use Rattle.refusals.specs.declared.Verdict.TheVariants.{Accepted, Refused}
-use Rattle.refusals.specs.Verdicts.{row_of, spot_of, unless}
+use Rattle.refusals.specs.Verdicts.{row_of, spot_of, unless, Verdict}
 use Rattle.records.specs.Eight.Codes.{Coder, IsBlock, step_of, whole_point}
 use Rattle.listing.specs.Laws.Decimal.{decimal-long}
 use Rattle.listing.specs.Laws.Order.{shown-place, shown-taken, shown-block}
@@ -119,8 +117,8 @@ unfolding block_shown
 block-shown-most c steps X eight = go (check_shown c steps X) refl
   where
     go : (v : Verdict) → check_shown c steps X ≡ v → let q = nat_abs c.q in let m = nat_abs c.m in length (printed v (block_listing q m steps (block_code e8 nearest q m steps X))) ≤ room_most
-    go Accepted e = listing-most c.q (nat_abs c.m) steps (shown-taken c steps X eight e).coder _ (shown-block c steps X eight e)
-    go (Refused r) e = refusal-most r (omega (arith, shown-place c steps X eight r e))
+    go (Ok u) e = listing-most c.q (nat_abs c.m) steps (shown-taken c steps X eight e).coder _ (shown-block c steps X eight e)
+    go (Err r) e = refusal-most r (omega (arith, shown-place c steps X eight r e))
 
 -- whatever the text is
 pub shown-most : (t : List ℕ) → length (shown t) ≤ room_most

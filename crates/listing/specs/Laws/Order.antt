@@ -1,5 +1,6 @@
 -- What is shown of eight X: the order of its refusals, and what it says that none is given.
-use Rattle.std.specs.Prelude.{◌≡◌, refl, Bool, true, false, cond, leb, ltb, ℤ, pos, length, replicate}
+use Rattle.readings.specs.declared.Fault.TheVariants as fault
+use Rattle.std.specs.Prelude.{◌≡◌, refl, Bool, true, false, cond, leb, ltb, ℤ, pos, length, replicate, Ok, Err}
 use Rattle.std.proofs.Common.{sym, ◌∙◌, ap₂, arith, le-leb, take_all}
 use Rattle.std.proofs.Math.Path.{ap}
 use mathlib.Core.List.{List, [], ◌∷◌, ◌++◌, map, append-nil}
@@ -14,20 +15,16 @@ use Rattle.blocks.specs.Trials.{first_fitting, block_code}
 use Rattle.layers.specs.Digits.{cut}
 use Rattle.layers.specs.E8.{e8, nearest}
 use Rattle.coding.specs.Laws.Asked.{checked-allowed}
-use Rattle.readings.specs.declared.Measured.{Measured}
-use Rattle.readings.specs.declared.Measured.TheVariants as measured
-use Rattle.readings.specs.Taking.{measure_units}
+use Rattle.readings.specs.Taking.{measure_units, Measured}
 use Rattle.refusals.specs.declared.settings.Settings.{Settings}
 use Rattle.refusals.specs.declared.Refusal.{Refusal}
 use Rattle.refusals.specs.declared.Refusal.TheVariants.{Settings as BadSettings, Steps, Size, Overload, Record}
-use Rattle.refusals.specs.declared.Verdict.{Verdict}
-use Rattle.refusals.specs.declared.Verdict.TheVariants.{Accepted, Refused}
 use Rattle.refusals.specs.Answers.{valued, written}
 use Rattle.refusals.specs.Laws.Verdicts.{refused-never, first-accepted}
 use Rattle.refusals.specs.Limits.{m_most}
 use Rattle.refusals.specs.Settings.{good_settings, check_settings}
 use Rattle.refusals.specs.Steps.{good_steps, check_steps}
-use Rattle.refusals.specs.Verdicts.{spot_of, place_of, unless, first_refusal}
+use Rattle.refusals.specs.Verdicts.{spot_of, place_of, unless, first_refusal, Verdict, verdict_of}
 use Rattle.records.specs.Eight.Codes.{IsBlock, block_size, code_length}
 use Rattle.records.specs.Frames.{whole_blocks}
 use Rattle.records.specs.Eight.Asked.{CoderTaken, coder-taken, coder-positive, steps-positive}
@@ -40,19 +37,19 @@ use Rattle.listing.specs.Listing.{block_listing, refusal_line, printed, check_sh
 use Rattle.texts.specs.Text.{line_of, numbers, settings_in, well_formed}
 
 -- the frame passes, and so does the room where the settings do
-in_order : (a b f g r k l : Verdict) → f ≡ Accepted → (a ≡ Accepted → g ≡ Accepted) → (r ≡ Accepted → k ≡ l) → first_refusal (first_refusal (a ∷ b ∷ f ∷ g ∷ []) ∷ r ∷ k ∷ []) ≡ first_refusal (a ∷ b ∷ r ∷ l ∷ [])
-in_order (Refused p) b f g r k l e h m = refl
-in_order Accepted (Refused p) f g r k l e h m = refl
-in_order Accepted Accepted f g (Refused p) k l e h m = ap₂ (λ (f g : Verdict). first_refusal (first_refusal (f ∷ g ∷ []) ∷ Refused p ∷ k ∷ [])) e (h refl)
-in_order Accepted Accepted f g Accepted k l e h m = ap₂ (λ (f g : Verdict). first_refusal (first_refusal (f ∷ g ∷ []) ∷ Accepted ∷ k ∷ [])) e (h refl) ∙ ap (λ (k : Verdict). first_refusal (k ∷ [])) (m refl)
+in_order : (a b f g r k l : Verdict) → f ≡ Ok tt → (a ≡ Ok tt → g ≡ Ok tt) → (r ≡ Ok tt → k ≡ l) → first_refusal (first_refusal (a ∷ b ∷ f ∷ g ∷ []) ∷ r ∷ k ∷ []) ≡ first_refusal (a ∷ b ∷ r ∷ l ∷ [])
+in_order (Err p) b f g r k l e h m = refl
+in_order (Ok u) (Err p) f g r k l e h m = refl
+in_order (Ok u) (Ok u2) f g (Err p) k l e h m = ap₂ (λ (f g : Verdict). first_refusal (first_refusal (f ∷ g ∷ []) ∷ Err p ∷ k ∷ [])) e (h refl)
+in_order (Ok u) (Ok u2) f g (Ok u3) k l e h m = ap₂ (λ (f g : Verdict). first_refusal (first_refusal (f ∷ g ∷ []) ∷ (Ok tt) ∷ k ∷ [])) e (h refl) ∙ ap (λ (k : Verdict). first_refusal (k ∷ [])) (m refl)
 
 -- ---- places
 
 readings-place : (i : ℕ) (l : List Measured) → place_of (check_readings i l) ≤ i + length l
 readings-place i [] = omega arith
-readings-place i (measured.Units x ∷ l) = omega (arith, readings-place (suc i) l)
-readings-place i (measured.Missing ∷ l) = omega arith
-readings-place i (measured.OutOfRange ∷ l) = omega arith
+readings-place i (Ok x ∷ l) = omega (arith, readings-place (suc i) l)
+readings-place i (Err fault.Missing ∷ l) = omega arith
+readings-place i (Err fault.OutOfRange ∷ l) = omega arith
 
 unless-place : (b : Bool) (r : Refusal) → place_of (unless b r) ≤ spot_of r
 unless-place true r = omega arith
@@ -61,16 +58,16 @@ unless-place false r = omega arith
 fits-place : (q m : ℕ) (steps X : List ℤ) → place_of (check_fits (code8 q m) steps 0 (X ∷ [])) ≤ 0
 fits-place q m steps X = go (ltb (first_fitting e8 nearest q m steps X) (length steps))
   where
-    go : (b : Bool) → place_of (cond b Accepted (Refused (Overload 0))) ≤ 0
+    go : (b : Bool) → place_of {A = Unit {0}} (cond b (Ok tt) (Err (Overload 0))) ≤ 0
     go true = omega arith
     go false = omega arith
 
 first-place : (a b r k : Verdict) → place_of a ≤ 8 → place_of b ≤ 8 → place_of r ≤ 8 → place_of k ≤ 8 → place_of (first_refusal (a ∷ b ∷ r ∷ k ∷ [])) ≤ 8
-first-place (Refused p) b r k h i j l = h
-first-place Accepted (Refused p) r k h i j l = i
-first-place Accepted Accepted (Refused p) k h i j l = j
-first-place Accepted Accepted Accepted (Refused p) h i j l = l
-first-place Accepted Accepted Accepted Accepted h i j l = h
+first-place (Err p) b r k h i j l = h
+first-place (Ok u) (Err p) r k h i j l = i
+first-place (Ok u) (Ok u2) (Err p) k h i j l = j
+first-place (Ok u) (Ok u2) (Ok u3) (Err p) h i j l = l
+first-place (Ok u) (Ok u2) (Ok u3) (Ok u4) h i j l = h
 
 -- ---- eight X
 
@@ -85,11 +82,11 @@ module _ (c : Settings) (steps X : List ℤ) (eight : length X ≡ 8) where
   one_block : in_blocks X ≡ X ∷ []
   one_block = ap (λ (n : ℕ). cut 8 (n / 8) X) eight ∙ ap (λ (x : List ℤ). x ∷ []) (take_all 8 X (omega (arith, eight)))
 
-  framed : (units_hour X).frame ≡ Accepted
+  framed : (units_hour X).frame ≡ Ok tt
   unfolding whole_blocks
   framed = ap (λ (n : ℕ). unless (whole_blocks 8 1 64 n) (Size 0)) eight
 
-  roomy : check_settings c ≡ Accepted → unless (leb (code_length m (blocks_of (units_hour X))) (code_length m_most 1)) (Size 1) ≡ Accepted
+  roomy : check_settings c ≡ Ok tt → unless (leb (code_length m (blocks_of (units_hour X))) (code_length m_most 1)) (Size 1) ≡ Ok tt
   roomy e =
       let one : blocks_of (units_hour X) ≡ 1 = ap (λ (n : ℕ). n / 8) (length-map X measure_units ∙ eight) in
       ap (λ (n : ℕ). unless (leb (code_length m n) (code_length m_most 1)) (Size 1)) one
@@ -102,7 +99,7 @@ module _ (c : Settings) (steps X : List ℤ) (eight : length X ≡ 8) where
       (λ e. ap (check_fits (code8 q m) steps 0) (ap in_blocks (units-taken 0 X e) ∙ one_block))
 
   -- a refusal's place is small
-  pub shown-place : (r : Refusal) → check_shown c steps X ≡ Refused r → spot_of r ≤ 8
+  pub shown-place : (r : Refusal) → check_shown c steps X ≡ Err r → spot_of r ≤ 8
   shown-place r e =
       let a : Verdict = check_settings c in let b : Verdict = check_steps 0 steps in let v : Verdict = check_readings 0 (map measure_units X) in let k : Verdict = check_fits (code8 q m) steps 0 (X ∷ []) in
       let ha : place_of a ≤ 0 = unless-place (good_settings c.q c.m) BadSettings in let hb : place_of b ≤ 0 = unless-place (good_steps steps) (Steps 0) in
@@ -111,8 +108,8 @@ module _ (c : Settings) (steps X : List ℤ) (eight : length X ≡ 8) where
 
   -- ---- where nothing is refused
 
-  module _ (ok : check_shown c steps X ≡ Accepted) where
-    checked : (check_settings c ≡ Accepted) × (check_steps 0 steps ≡ Accepted) × (check_readings 0 (map measure_units X) ≡ Accepted) × (check_fits (code8 q m) steps 0 (X ∷ []) ≡ Accepted)
+  module _ (ok : check_shown c steps X ≡ Ok tt) where
+    checked : (check_settings c ≡ Ok tt) × (check_steps 0 steps ≡ Ok tt) × (check_readings 0 (map measure_units X) ≡ Ok tt) × (check_fits (code8 q m) steps 0 (X ∷ []) ≡ Ok tt)
     checked =
         let b : Verdict = check_steps 0 steps in let r : Verdict = check_readings 0 (map measure_units X) in let k : Verdict = check_fits (code8 q m) steps 0 (X ∷ []) in
         let s = first-accepted (check_settings c) (b ∷ r ∷ k ∷ []) (sym shown-order ∙ ok) in let l = first-accepted b (r ∷ k ∷ []) s.1 in
@@ -150,21 +147,21 @@ module _ (c : Settings) (steps X : List ℤ) (eight : length X ≡ 8) where
         ∙ ap (λ (f : List ℕ). take n (f ++ rest (X ∷ []))) (append-nil code) ∙ take_at code (rest (X ∷ [])) n (block-long8 q m steps X)
 
 -- the answer's verdict is the operation's
-pub encoded-verdict : (c : Settings) (steps : List ℤ) (h : Hour) (room : ℕ) → (encoded (eight_of c) c steps h room).verdict ≡ check_encode (eight_of c) c steps h room
+pub encoded-verdict : (c : Settings) (steps : List ℤ) (h : Hour) (room : ℕ) → verdict_of (encoded (eight_of c) c steps h room) ≡ check_encode (eight_of c) c steps h room
 unfolding encoded
 encoded-verdict c steps h room = go (check_encode (eight_of c) c steps h room) (pos (code_length (nat_abs c.m) (blocks_of h)))
   where
-    go : (v : Verdict) (z : ℤ) → (valued v z).verdict ≡ v
-    go Accepted z = refl
-    go (Refused r) z = refl
+    go : (v : Verdict) (z : ℤ) → verdict_of (valued v z) ≡ v
+    go (Ok u) z = refl
+    go (Err r) z = refl
 
 -- what is shown of eight X by their verdict
 module _ (c : Settings) (steps X : List ℤ) where
-  pub block_refused : (r : Refusal) → check_shown c steps X ≡ Refused r → refusal_line r ≡ block_shown c steps X
+  pub block_refused : (r : Refusal) → check_shown c steps X ≡ Err r → refusal_line r ≡ block_shown c steps X
   unfolding block_shown
   block_refused r e = let q = nat_abs c.q in let m = nat_abs c.m in ap (λ (v : Verdict). printed v (block_listing q m steps (block_code e8 nearest q m steps X))) (sym e)
 
-  pub block-accepted : check_shown c steps X ≡ Accepted → let q = nat_abs c.q in let m = nat_abs c.m in block_listing q m steps (block_code e8 nearest q m steps X) ≡ block_shown c steps X
+  pub block-accepted : check_shown c steps X ≡ Ok tt → let q = nat_abs c.q in let m = nat_abs c.m in block_listing q m steps (block_code e8 nearest q m steps X) ≡ block_shown c steps X
   unfolding block_shown
   block-accepted e = let q = nat_abs c.q in let m = nat_abs c.m in ap (λ (v : Verdict). printed v (block_listing q m steps (block_code e8 nearest q m steps X))) (sym e)
 

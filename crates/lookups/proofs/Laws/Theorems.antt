@@ -1,5 +1,5 @@
 -- What scoring by table says: over a table as filling leaves it the whole answer is that of the plain score.
-use Rattle.std.specs.Prelude.{◌≡◌, refl, Bool, List, [], ◌++◌, ℕ, ◌+◌, ◌*◌, ◌/◌, ◌≤◌, ℤ, pos, nat_abs, length, get_or, drop}
+use Rattle.std.specs.Prelude.{◌≡◌, refl, Bool, List, [], ◌++◌, ℕ, ◌+◌, ◌*◌, ◌/◌, ◌≤◌, ℤ, pos, nat_abs, length, get_or, drop, Ok, Err}
 use Rattle.std.proofs.Common.{sym, ◌∙◌, ap, subst, arith, le-leb, length-append}
 use Rattle.layers.specs.Digits.{IsCode}
 use Rattle.records.specs.Eight.Codes.{blocks_in, code_blocks}
@@ -9,11 +9,9 @@ use Rattle.records.proofs.Eight.Hours.{Sound}
 use Rattle.records.specs.Eight.Vectors.{Hour, units_taken, blocks_of}
 use Rattle.refusals.specs.declared.settings.Settings.{Settings}
 use Rattle.refusals.specs.declared.Refusal.TheVariants.{Table, Size}
-use Rattle.refusals.specs.declared.Verdict.{Verdict}
-use Rattle.refusals.specs.declared.Verdict.TheVariants.{Accepted, Refused}
 use Rattle.refusals.specs.Answers.{valued}
 use Rattle.refusals.specs.Limits.{blocks_most}
-use Rattle.refusals.specs.Verdicts.{unless}
+use Rattle.refusals.specs.Verdicts.{unless, Verdict}
 use Rattle.scores.specs.Eight.Asked.{taken-block}
 use Rattle.scores.specs.Eight.Pair.{pair-taken}
 use Rattle.scores.specs.Eight.Query.{query-taken}
@@ -30,9 +28,9 @@ use Rattle.tables.proofs.Laws.Theorems.{pair-filled, fill-taken, query-filled, q
 -- ---- by the pair table
 
 -- answers of one verdict, whose values are the same where it accepts
-valued_same : (v : Verdict) (x y : ℤ) → (v ≡ Accepted → x ≡ y) → valued v x ≡ valued v y
-valued_same Accepted x y h = ap (valued Accepted) (h refl)
-valued_same (Refused r) x y h = refl
+valued_same : (v : Verdict) (x y : ℤ) → (v ≡ Ok tt → x ≡ y) → valued v x ≡ valued v y
+valued_same (Ok u) x y h = ap (valued (Ok tt)) (h refl)
+valued_same (Err r) x y h = refl
 
 -- the whole answer, refusals among them, is that of the plain score
 pub pair-score-same : (c : Settings) (steps : List ℤ) (b : List ℕ) (steps' : List ℤ) (b' : List ℕ) (rest : List ℤ) → c.q ≡ pos 2
@@ -40,8 +38,8 @@ pub pair-score-same : (c : Settings) (steps : List ℤ) (b : List ℕ) (steps' :
 unfolding pair_score_by Rattle.scores.specs.Scores.pair_score
 pair-score-same c steps b steps' b' rest two =
     let t : List ℤ = pair_table ++ rest in let q : ℕ = nat_abs c.q in let m : ℕ = nat_abs c.m in let is : q ≡ 2 = ap nat_abs two in
-    let table : check_table 2 c ≡ Accepted = ap (λ (t : Bool). unless t Table) (le-leb q 2 (omega arith)) in
-    let long : check_entries pair_size (length t) ≡ Accepted = ap (λ (t : Bool). unless t (Size 2)) (le-leb pair_size (length t) (simp length-append (omega (arith, pair_table-long)))) in
+    let table : check_table 2 c ≡ Ok tt = ap (λ (t : Bool). unless t Table) (le-leb q 2 (omega arith)) in
+    let long : check_entries pair_size (length t) ≡ Ok tt = ap (λ (t : Bool). unless t (Size 2)) (le-leb pair_size (length t) (simp length-append (omega (arith, pair_table-long)))) in
     let same = pair-by-same c steps b steps' b' (length t) table long in
     ap (λ (v : Verdict). valued v (pair_total_by m steps steps' t b b')) same ∙ valued_same (check_pair c steps b steps' b') (pair_total_by m steps steps' t b b') (pair_total q m steps steps' b b')
     (λ e. let p = pair-taken c steps b steps' b' e in
@@ -50,7 +48,7 @@ pair-score-same c steps b steps' b' rest two =
     ∙ ap (λ (q : ℕ). pair_total q m steps steps' b b') (sym is))
 
 -- so over a table that was filled with any settings
-pub pair-score-filled : (f : Settings) (out : List ℤ) → check_pair_table f (length out) ≡ Accepted → (c : Settings) (steps : List ℤ) (b : List ℕ) (steps' : List ℤ) (b' : List ℕ) → c.q ≡ f.q
+pub pair-score-filled : (f : Settings) (out : List ℤ) → check_pair_table f (length out) ≡ Ok tt → (c : Settings) (steps : List ℤ) (b : List ℕ) (steps' : List ℤ) (b' : List ℕ) → c.q ≡ f.q
     → pair_score_by c steps b steps' b' (pair_table_room f out) ≡ pair_score c steps b steps' b'
 pair-score-filled f out ok c steps b steps' b' e =
     let h = pair-table-taken f (length out) ok in let two : nat_abs f.q ≡ 2 = omega (arith, h.two, h.allowed.q-least) in
@@ -59,7 +57,7 @@ pair-score-filled f out ok c steps b steps' b' e =
 -- ---- by the query table
 
 -- over a table that was filled for the query with any settings of that q, the whole answer for a record of as many blocks is that of the plain score
-pub query-score-filled : (f : Settings) (h : Hour) (out : List ℤ) → Sound h → check_query_table f h (length out) ≡ Accepted → (c : Settings) (steps : List ℤ) (b : List ℕ) → c.q ≡ f.q
+pub query-score-filled : (f : Settings) (h : Hour) (out : List ℤ) → Sound h → check_query_table f h (length out) ≡ Ok tt → (c : Settings) (steps : List ℤ) (b : List ℕ) → c.q ≡ f.q
     → blocks_in (nat_abs c.m) b ≡ blocks_of h → query_score_by c steps b (query_table_room f h out) ≡ query_score c steps h b
 unfolding query_score_by Rattle.scores.specs.Scores.query_score
 query-score-filled f h out sound ok c steps b e same =

@@ -1,5 +1,5 @@
 -- The order of scoring by table, and what it says that records and a table were taken.
-use Rattle.std.specs.Prelude.{◌≡◌, refl, Bool, ℤ, pos, nat_abs, length}
+use Rattle.std.specs.Prelude.{◌≡◌, refl, Bool, ℤ, pos, nat_abs, length, Ok}
 use Rattle.std.proofs.Common.{sym, ◌∙◌, subst, arith}
 use Rattle.std.proofs.Math.Path.{ap, ap₂}
 use mathlib.Core.List.{List, [], ◌∷◌, ◌++◌}
@@ -11,13 +11,11 @@ use Rattle.records.specs.Eight.Asked.{RecordTaken, record-taken}
 use Rattle.records.specs.Eight.Vectors.{Hour, check_readings, blocks_of}
 use Rattle.refusals.specs.declared.settings.Settings.{Settings}
 use Rattle.refusals.specs.declared.Refusal.TheVariants.{Table, Size, Record}
-use Rattle.refusals.specs.declared.Verdict.{Verdict}
-use Rattle.refusals.specs.declared.Verdict.TheVariants.{Accepted}
 use Rattle.refusals.specs.Laws.Verdicts.{first-accepted, first-append, first_group}
 use Rattle.refusals.specs.Limits.{blocks_most}
 use Rattle.refusals.specs.Settings.{check_settings}
 use Rattle.refusals.specs.Steps.{check_steps}
-use Rattle.refusals.specs.Verdicts.{unless, first_refusal}
+use Rattle.refusals.specs.Verdicts.{unless, first_refusal, Verdict}
 use Rattle.scores.specs.Eight.Pair.{PairTaken, pair-taken}
 use Rattle.scores.specs.Eight.Scores.{check_code, check_pair, check_query}
 use Rattle.tables.specs.Filling.{check_table, check_entries}
@@ -26,7 +24,7 @@ use Rattle.lookups.specs.Scoring.{check_pair_by, record_by, check_query_by}
 use Rattle.tables.specs.Tables.{pair_most, query_most, pair_size, part_size}
 
 -- a check that accepts may be left out
-pub first-without : (a c : List Verdict) → first_refusal (a ++ (Accepted ∷ c)) ≡ first_refusal (a ++ c)
+pub first-without : (a c : List Verdict) → first_refusal (a ++ (Ok tt ∷ c)) ≡ first_refusal (a ++ c)
 first-without a c = sym (first_group a [] c)
 
 -- ---- by the pair table
@@ -65,11 +63,11 @@ module _ (c : Settings) (steps : List ℤ) (b : List ℕ) (steps' : List ℤ) (b
       ∙ first_group (v ∷ w ∷ u ∷ []) (here ∷ there ∷ []) []
 
   -- where q is 2 and the table is long enough, the order is that of the plain score
-  pub pair-by-same : table ≡ Accepted → long ≡ Accepted → check_pair_by c steps b steps' b' room ≡ check_pair c steps b steps' b'
+  pub pair-by-same : table ≡ Ok tt → long ≡ Ok tt → check_pair_by c steps b steps' b' room ≡ check_pair c steps b steps' b'
   unfolding check_pair_by Rattle.scores.specs.Scores.check_pair
   pair-by-same e f = let before : List Verdict = check_settings c ∷ check_steps 0 steps ∷ check_steps 1 steps' ∷ [] in
       ap₂ (λ (t l : Verdict). first_refusal (before ++ (t ∷ l ∷ here ∷ there ∷ []))) e f
-      ∙ first-without before (Accepted ∷ here ∷ there ∷ []) ∙ first-without before (here ∷ there ∷ [])
+      ∙ first-without before (Ok tt ∷ here ∷ there ∷ []) ∙ first-without before (here ∷ there ∷ [])
 
   -- settings for the table, both records, and a table that is long enough
   pub record PairByTaken : Type 0 where
@@ -78,7 +76,7 @@ module _ (c : Settings) (steps : List ℤ) (b : List ℕ) (steps' : List ℤ) (b
     pub fits : pair_size ≤ room
 
   -- the table's own checks accept
-  table-accepted : check_pair_by c steps b steps' b' room ≡ Accepted → (table ≡ Accepted) × (long ≡ Accepted)
+  table-accepted : check_pair_by c steps b steps' b' room ≡ Ok tt → (table ≡ Ok tt) × (long ≡ Ok tt)
   table-accepted e =
       let lent : Verdict = first_refusal (table ∷ long ∷ []) in let codes : Verdict = first_refusal (here ∷ there ∷ []) in
       let s = first-accepted (first_refusal coder) (check_steps 1 steps' ∷ lent ∷ codes ∷ []) (sym (pair-by-is (first_refusal coder) (check_steps 1 steps') lent refl refl refl) ∙ e) in
@@ -86,7 +84,7 @@ module _ (c : Settings) (steps : List ℤ) (b : List ℕ) (steps' : List ℤ) (b
       let u = first-accepted table (long ∷ []) t.0 in (u.0, (first-accepted long [] u.1).0)
 
   -- an accepted score has them
-  pub pair-by-taken : check_pair_by c steps b steps' b' room ≡ Accepted → PairByTaken
+  pub pair-by-taken : check_pair_by c steps b steps' b' room ≡ Ok tt → PairByTaken
   pair-by-taken e =
       let t = table-accepted e in let p = pair-taken c steps b steps' b' (sym (pair-by-same t.0 t.1) ∙ e) in let a = p.first.allowed in
       let two : nat_abs c.q ≡ 2 = omega (arith, a.q-least, table_taken pair_most c t.0) in
@@ -102,7 +100,7 @@ module _ (steps q m : ℕ) (b : List ℕ) (room : ℕ) where
   record-by-is f w e g = ap₂ (λ (f : Bool) (w : Verdict). first_refusal (unless f (Record 0) ∷ w ∷ check_blocks steps q (block_size m) 0 (code_blocks m b) ∷ [])) e g
 
   -- an accepted record is a good one, and the table is long enough for it
-  pub record-by-taken : record_by steps q m b room ≡ Accepted → RecordTaken steps q m 1 blocks_most b × (part_size q * blocks_in m b ≤ room)
+  pub record-by-taken : record_by steps q m b room ≡ Ok tt → RecordTaken steps q m 1 blocks_most b × (part_size q * blocks_in m b ≤ room)
   unfolding record_by
   record-by-taken e =
       let long : Verdict = check_entries (part_size q * blocks_in m b) room in let bytes : Verdict = check_blocks steps q (block_size m) 0 (code_blocks m b) in
@@ -133,15 +131,15 @@ module _ (m K : ℕ) (b : List ℕ) (count : blocks_in m b ≡ K) (some : 1 ≤ 
   unfolding record_by Rattle.scores.specs.Scores.check_code
   record-by-same steps q room h =
       let bytes : Verdict = check_blocks steps q (block_size m) 0 (code_blocks m b) in
-      let long : check_entries (part_size q * blocks_in m b) room ≡ Accepted = ap (λ (t : Bool). unless t (Size 2)) (le-leb (part_size q * blocks_in m b) room (subst (λ (k : ℕ). part_size q * k ≤ room) (sym count) h)) in
+      let long : check_entries (part_size q * blocks_in m b) room ≡ Ok tt = ap (λ (t : Bool). unless t (Size 2)) (le-leb (part_size q * blocks_in m b) room (subst (λ (k : ℕ). part_size q * k ≤ room) (sym count) h)) in
       ap₂ (λ (f l : Verdict). first_refusal (f ∷ l ∷ bytes ∷ [])) (sym exact-frame) long ∙ first-without (check_frame m K K 0 b ∷ []) (bytes ∷ [])
 
 -- where q is one that the table is for and the query was taken, the order is that of the plain score
 pub query-by-same : (c : Settings) (steps : List ℤ) (h : Hour) (b : List ℕ) (room : ℕ) → let K = blocks_of h in blocks_in (nat_abs c.m) b ≡ K → 1 ≤ K → K ≤ blocks_most → nat_abs c.q ≤ query_most
-    → part_size (nat_abs c.q) * K ≤ room → h.frame ≡ Accepted → check_readings 0 h.readings ≡ Accepted → check_query_by c steps b room ≡ check_query c steps h b
+    → part_size (nat_abs c.q) * K ≤ room → h.frame ≡ Ok tt → check_readings 0 h.readings ≡ Ok tt → check_query_by c steps b room ≡ check_query c steps h b
 unfolding check_query_by Rattle.scores.specs.Scores.check_query
 query-by-same c steps h b room count some few most long e f =
     let q : ℕ = nat_abs c.q in let m : ℕ = nat_abs c.m in let K : ℕ = blocks_of h in let before : List Verdict = check_settings c ∷ check_steps 0 steps ∷ [] in
-    let code : Verdict = check_code (length steps) q m K K 0 0 b in let table : check_table query_most c ≡ Accepted = ap (λ (t : Bool). unless t Table) (le-leb q query_most most) in
+    let code : Verdict = check_code (length steps) q m K K 0 0 b in let table : check_table query_most c ≡ Ok tt = ap (λ (t : Bool). unless t Table) (le-leb q query_most most) in
     ap₂ (λ (t r : Verdict). first_refusal (before ++ (t ∷ r ∷ []))) table (record-by-same m K b count some few (length steps) q room long) ∙ first-without before (code ∷ [])
-    ∙ sym (ap₂ (λ (f r : Verdict). first_refusal (before ++ (f ∷ r ∷ code ∷ []))) e f ∙ first-without before (Accepted ∷ code ∷ []) ∙ first-without before (code ∷ []))
+    ∙ sym (ap₂ (λ (f r : Verdict). first_refusal (before ++ (f ∷ r ∷ code ∷ []))) e f ∙ first-without before (Ok tt ∷ code ∷ []) ∙ first-without before (code ∷ []))

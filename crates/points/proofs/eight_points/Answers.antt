@@ -20,7 +20,7 @@ module _ (c : In-loop-i) where
   within = omega arith
 
   above : LanePoints (nat_abs c.args.q) c.args.m c.args.n (suc j) c.args.body.now c.loop-i.e
-  above = let next : c.loop-i.i ≡ suc j = omega arith in subst (λ (k : ℕ). LanePoints (nat_abs c.args.q) c.args.m c.args.n k c.args.body.now c.loop-i.e) next (simp (to_z-of_z, c.ranges.q) at c.loop-i.invariant.1)
+  above = let next : c.loop-i.i ≡ suc j = omega arith in subst (λ (k : ℕ). LanePoints (nat_abs c.args.q) c.args.m c.args.n k c.args.body.now c.loop-i.e) next (simp (to_z-of_z, c.ranges.q) at c.loop-i.invariant)
 
 -- the points of what one pass took
 module _ (c : After-layer_points-l) where
@@ -44,8 +44,6 @@ rows_plus_times-e-requires c = let w = goal.at.rows_plus_times-e-requires c in l
     simp (to_z-of_z, c.ranges.q) (lanes-summable a.q a.m a.n a.body.now p.0 p.1 (j l) (within l) c.taken-c.result (c.taken-c.ensures.one (omega (arith, c.if-n-m-le8.false))) c.layer_points-l.result c.loop-i.e (points-are w.After-layer_points-l) (above l))
 
 pub loop-i-preserved : goal.loop-i-preserved
-loop-i-preserved c = let w = goal.at.loop-i-preserved c in let l = w.In-loop-i in let a = c.args in let p = c.requires in (
-  omega (arith, within l),
-  simp (to_z-of_z, c.ranges.q) (lanes-more a.q a.m a.n a.body.now p.0 p.1 (j l) (within l) c.taken-c.result (c.taken-c.ensures.one (omega (arith, c.if-n-m-le8.false))) c.layer_points-l.result c.loop-i.e (points-are w.After-layer_points-l) (above l)
-      c.rows_plus_times-e.result (simp (to_z-of_z, c.ranges.q) at c.rows_plus_times-e.ensures)),
-)
+loop-i-preserved c = let w = goal.at.loop-i-preserved c in let l = w.In-loop-i in let a = c.args in let p = c.requires in
+    simp (to_z-of_z, c.ranges.q) (lanes-more a.q a.m a.n a.body.now p.0 p.1 (j l) (within l) c.taken-c.result (c.taken-c.ensures.one (omega (arith, c.if-n-m-le8.false))) c.layer_points-l.result c.loop-i.e (points-are w.After-layer_points-l) (above l)
+    c.rows_plus_times-e.result (simp (to_z-of_z, c.ranges.q) at c.rows_plus_times-e.ensures))

@@ -41,12 +41,12 @@ module _ (c : In-loop-i) where
   layer-is = ap (λ (a : ℕ). take 8 (drop a f)) at-is ∙ layer-of m f b i c.loop-i-test.true
 
 pub put_layer-requires : goal.put_layer-requires
-put_layer-requires c = let p = (goal.at.put_layer-requires c).In-loop-i in (ends p, within p, c.loop-i.invariant.1.square)
+put_layer-requires c = let p = (goal.at.put_layer-requires c).In-loop-i in (ends p, within p, c.loop-i.invariant.square)
 
 pub loop-i-preserved : goal.loop-i-preserved
 loop-i-preserved c = let p = (goal.at.loop-i-preserved c).In-loop-i in let next : m p * b p + (i p + 1) ≡ m p * b p + i p + 1 = omega arith in
-    (omega (arith, c.loop-i-test.true), rw next (laid_more (layer_of (m p) (f p)) (m p * b p + i p) (layer-is p) c.loop-i.invariant.1 c.put_layer.ensures))
+    rw next (laid_more (layer_of (m p) (f p)) (m p * b p + i p) (layer-is p) c.loop-i.invariant c.put_layer.ensures)
 
 pub returns : goal.returns
 returns c = let a = c.args in let e : c.loop-b.b ≡ a.n = omega arith in
-    laid-all a.m a.n a.body.now (subst (λ (b : ℕ). Laid (layer_of a.m a.body.now) (a.m * b) c.loop-b.c) e c.loop-b.invariant.1)
+    laid-all a.m a.n a.body.now (subst (λ (b : ℕ). Laid (layer_of a.m a.body.now) (a.m * b) c.loop-b.c) e c.loop-b.invariant)

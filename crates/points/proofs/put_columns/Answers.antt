@@ -10,8 +10,6 @@ use Rattle.points.specs.Laws.Lanes.{columns-more}
 use Rattle.points.proofs.put_columns.Goals as goal
 
 pub loop-b-preserved : goal.loop-b-preserved
-loop-b-preserved c = (
-  omega arith,
-  ap₂ (λ (r : List (List ℤ)) (x : List ℤ). set r (c.args.i + c.loop-b.b) x) c.loop-b.invariant.1 c.column.ensures
-      ∙ columns-more (λ (t : ℕ). column (pos 0) t c.args.e.now) c.args.rows.now c.args.i c.loop-b.b [] (omega (arith, c.loop-b-test.true, c.requires.2, c.requires.3)),
-)
+loop-b-preserved c =
+    ap₂ (λ (r : List (List ℤ)) (x : List ℤ). set r (c.args.i + c.loop-b.b) x) c.loop-b.invariant (c.column.ensures (pos 0))
+    ∙ columns-more (λ (t : ℕ). column (pos 0) t c.args.e.now) c.args.rows.now c.args.i c.loop-b.b [] (omega (arith, c.loop-b-test.true, c.requires.2, c.requires.3))

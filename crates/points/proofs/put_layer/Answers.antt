@@ -13,8 +13,5 @@ part-long : (f : List ℕ) (a : ℕ) → a + 8 ≤ length f → length (part f a
 part-long f a h = simp (length-take, length-drop) (omega arith)
 
 pub loop-j-preserved : goal.loop-j-preserved
-loop-j-preserved c = let a = c.args in let j = c.loop-j.j in let f = a.body.now in (
-  omega (arith, c.loop-j-test.true),
-  putting-more a.t c.requires.1 (part f a.a) (part-long f a.a c.requires.0) a.c.now j c.loop-j.c c.loop-j.invariant.1
-      (get_or f (a.a + j) 0) (sym (get_or-take 8 (drop a.a f) j 0 c.loop-j-test.true ∙ get_or-drop a.a f j 0)) c.loop-j-test.true,
-)
+loop-j-preserved c = let a = c.args in let j = c.loop-j.j in let f = a.body.now in putting-more a.t c.requires.1 (part f a.a) (part-long f a.a c.requires.0) a.c.now j c.loop-j.c c.loop-j.invariant
+    (get_or f (a.a + j) 0) (sym (get_or-take 8 (drop a.a f) j 0 c.loop-j-test.true ∙ get_or-drop a.a f j 0)) c.loop-j-test.true

@@ -1,7 +1,7 @@
 -- `rows_plus_times` goes row by row: after j turns the first j are right.
 use mathlib.Core.Path.{◌≡◌}
 use mathlib.Core.List.{List, []}
-use Prim.Native.Nat.{ℕ, ◌-◌, ◌<◌, ◌≤◌}
+use Prim.Native.Nat.{ℕ, ◌<◌}
 use lib.IntN.{ℤ}
 use lib.ListN.{length, get_or}
 use Rattle.integers.specs.Vectors.{add_v, scale_v}
@@ -12,7 +12,4 @@ abbrev pub sum : ℤ → List (List ℤ) → List (List ℤ) → ℕ → List �
 sum q l e t = add_v (get_or l t []) (scale_v q (get_or e t []))
 
 abbrev pub invariant-loop-j : goal.invariant-loop-j
-invariant-loop-j l = (l.j ≤ 8) × (length l.r ≡ 8) × ((t : ℕ) → t < l.j → get_or l.r t [] ≡ sum l.q l.l l.e t)
-
-abbrev pub decreases-loop-j : goal.decreases-loop-j
-decreases-loop-j l = 8 - l.j
+invariant-loop-j l = record { long : length l.r ≡ 8; each : (t : ℕ) → t < l.j → get_or l.r t [] ≡ sum l.q l.l l.e t }

@@ -1,11 +1,5 @@
--- `ruled_points` goes by groups of up to eight blocks: after those up to i the points of the first i stand before the rows as found.
-use mathlib.Core.Path.{◌≡◌, sym, ◌∙◌, ap, subst}
-use mathlib.Core.List.{List, ◌++◌, map}
-use Prim.Native.Nat.{ℕ, ◌+◌, ◌*◌, ◌-◌, ◌≤◌}
-use native.Mathlib.Omega.{arith}
-use lib.IntN.{ℤ, pos, nat_abs}
-use lib.ListN.{length, take, drop}
-use mir.Facts.{to_z-of_z}
+-- `ruled_points` goes by groups of up to eight blocks: before the group from i on the points of the first i stand before the rows as found.
+use Rattle.std.proofs.Common.{◌≡◌, sym, ◌∙◌, ap, subst, arith, List, ◌++◌, map, ℕ, ◌+◌, ◌*◌, ◌-◌, ◌≤◌, ℤ, pos, nat_abs, length, take, drop, to_z-of_z}
 use Rattle.integers.specs.Laws.Loops.{rest-whole}
 use Rattle.integers.specs.Vectors.{range}
 use Rattle.columns.specs.Columns.{column}
@@ -15,10 +9,10 @@ use Rattle.points.specs.Lanes.{BlockPoints}
 use Rattle.points.specs.Laws.LanePoints.{codes-from, group-more}
 use Rattle.points.specs.Laws.Points.{rows_long}
 use Rattle.points.proofs.ruled_points.Goals as goal
-use Rattle.points.proofs.ruled_points.Goals.{After-smaller-n}
+use Rattle.points.proofs.ruled_points.Goals.{After-min-n}
 
 -- n blocks from i on
-module _ (c : After-smaller-n) where
+module _ (c : After-min-n) where
   abbrev q : ℕ
   q = nat_abs c.args.q
 
@@ -38,7 +32,7 @@ module _ (c : After-smaller-n) where
   i = c.loop-i.i
 
   abbrev n : ℕ
-  n = c.smaller-n.result
+  n = c.min-n.result
 
   abbrev point : List ℕ → List ℤ
   point = whole_point q m
@@ -46,17 +40,21 @@ module _ (c : After-smaller-n) where
   abbrev size : ℕ
   size = c.block_size-size.result
 
-  rows_are : c.loop-i.rows ≡ map point (cut (block_size m) i body) ++ drop i found
-  rows_are = simp (to_z-of_z, c.ranges.q) at c.loop-i.invariant.1
+  -- the rows as found, after the points of j blocks
+  abbrev done : ℕ → List (List ℤ)
+  done j = map point (cut (block_size m) j body) ++ drop j found
+
+  rows_are : c.loop-i.rows ≡ done i
+  rows_are = simp (to_z-of_z, c.ranges.q) at c.loop-i.invariant.rows
 
   same-room : length c.loop-i.rows ≡ 64
-  same-room = ap length rows_are ∙ rows_long point (block_size m) body found i (omega (arith, c.requires.2, c.requires.3, c.loop-i.invariant.0)) ∙ c.requires.3
+  same-room = ap length rows_are ∙ rows_long point (block_size m) body found i (omega (arith, c.requires.2, c.requires.3, c.loop-i-test.true)) ∙ c.requires.3
 
   few : n ≤ 8
-  few = omega (arith, c.smaller-n.ensures)
+  few = omega (arith, c.min-n.ensures)
 
   within : i + n ≤ k
-  within = omega (arith, c.smaller-n.ensures, c.loop-i-test.true)
+  within = omega (arith, c.min-n.ensures, c.loop-i-test.true)
 
   rest-is : take (length body - size * i) (drop (size * i) body) ≡ drop (block_size m * i) body
   rest-is = rest-whole (size * i) body ∙ ap (λ (n : ℕ). drop (n * i) body) c.block_size-size.ensures
@@ -70,19 +68,28 @@ module _ (c : After-smaller-n) where
     points-are = subst (λ (f : List ℕ). BlockPoints q m n f e) rest-is h
 
     -- are written
-    more-are : (take i c.loop-i.rows ++ map (λ (j : ℕ). column (pos 0) j e) (range 0 n)) ++ drop (i + n) c.loop-i.rows ≡ map point (cut (block_size m) (i + n) body) ++ drop (i + n) found
+    more-are : (take i c.loop-i.rows ++ map (λ (j : ℕ). column (pos 0) j e) (range 0 n)) ++ drop (i + n) c.loop-i.rows ≡ done (i + n)
     more-are =
         ap (λ (x : List (List ℤ)). (take i x ++ map (λ (j : ℕ). column (pos 0) j e) (range 0 n)) ++ drop (i + n) x) rows_are
         ∙ group-more q m n body found e i points-are
 
 pub eight_points-e-requires : goal.eight_points-e-requires
-eight_points-e-requires c = let b = (goal.at.eight_points-e-requires c).After-smaller-n in
+eight_points-e-requires c = let b = (goal.at.eight_points-e-requires c).After-min-n in
     simp (to_z-of_z, c.ranges.q) (c.requires.0, codes b, few b)
 
 pub put_columns-requires : goal.put_columns-requires
-put_columns-requires c = let b = (goal.at.put_columns-requires c).After-smaller-n in
+put_columns-requires c = let b = (goal.at.put_columns-requires c).After-min-n in
     ((points-are b c.eight_points-e.result (simp (to_z-of_z, c.ranges.q) at c.eight_points-e.ensures)).square, few b, omega (arith, within b, c.requires.2), same-room b)
 
 pub loop-i-preserved : goal.loop-i-preserved
-loop-i-preserved c = let b = (goal.at.loop-i-preserved c).After-smaller-n in
-    (within b, simp (to_z-of_z, c.ranges.q) (c.put_columns.ensures ∙ more-are b c.eight_points-e.result (simp (to_z-of_z, c.ranges.q) at c.eight_points-e.ensures)))
+loop-i-preserved c = let b = (goal.at.loop-i-preserved c).After-min-n in
+    let next : i b + n b ≡ c.loop-i.i + 8 = omega (arith, c.min-n.ensures) in
+    record {
+      within = omega arith;
+      rows = simp (to_z-of_z, c.ranges.q) (c.put_columns.ensures ∙ more-are b c.eight_points-e.result (simp (to_z-of_z, c.ranges.q) at c.eight_points-e.ensures) ∙ ap (done b) next);
+    }
+
+pub returns-2 : goal.returns-2
+returns-2 c = let b = (goal.at.returns-2 c).After-min-n in
+    let all : i b + n b ≡ c.args.k = omega (arith, c.min-n.ensures) in
+    c.put_columns.ensures ∙ more-are b c.eight_points-e.result (simp (to_z-of_z, c.ranges.q) at c.eight_points-e.ensures) ∙ ap (done b) all

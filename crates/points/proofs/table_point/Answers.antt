@@ -42,7 +42,7 @@ module _ (c : In-loop-i) where
   above = decode8 2 (m - suc j) (drop (8 * suc j) ds)
 
   above-is : c.loop-i.e ≡ above
-  above-is = c.loop-i.invariant.1 ∙ ap (λ (k : ℕ). decode8 2 (m - k) (drop (8 * k) ds)) (sym next)
+  above-is = c.loop-i.invariant ∙ ap (λ (k : ℕ). decode8 2 (m - k) (drop (8 * k) ds)) (sym next)
 
   is-layer : IsLayer 8 2 layer
   is-layer = code-layer 8 2 m ds c.requires.2 j within
@@ -63,7 +63,5 @@ plus_times-e-requires c = let l = (goal.at.plus_times-e-requires c).In-loop-i in
 
 pub loop-i-preserved : goal.loop-i-preserved
 loop-i-preserved c = let l = (goal.at.loop-i-preserved c).In-loop-i in
-    let e : c.table_point-l.result ≡ layer_point8 2 (layer l) = c.table_point-l.ensures ∙ ap (λ (k : ℕ). layer_point8 2 (take k (drop (8 * j l) (ds l)))) (eight l) in (
-      omega arith,
-      c.plus_times-e.ensures ∙ ap₂ (λ (x y : List ℤ). add_v x (scale_v (pos 2) y)) e (above-is l) ∙ sym (decode-down e8 nearest 2 (m l) (ds l) (j l) (within l)),
-    )
+    let e : c.table_point-l.result ≡ layer_point8 2 (layer l) = c.table_point-l.ensures ∙ ap (λ (k : ℕ). layer_point8 2 (take k (drop (8 * j l) (ds l)))) (eight l) in
+    c.plus_times-e.ensures ∙ ap₂ (λ (x y : List ℤ). add_v x (scale_v (pos 2) y)) e (above-is l) ∙ sym (decode-down e8 nearest 2 (m l) (ds l) (j l) (within l))

@@ -46,16 +46,16 @@ module _ (c : In-loop-i) where
   room = omega (arith, c.loop-i-test.true, c.requires.3, c.requires.4)
 
   same-room : length c.loop-i.rows ≡ length found
-  same-room = ap length c.loop-i.invariant.1 ∙ rows_long point (block_size m) body found i (omega (arith, room))
+  same-room = ap length c.loop-i.invariant ∙ rows_long point (block_size m) body found i (omega (arith, room))
 
   -- its point
   more-are : (e : List ℤ) → e ≡ decode8 2 m (take (size * i + 1 + 8 * m - (size * i + 1)) (drop (size * i + 1) body)) → set c.loop-i.rows i e ≡ map point (cut (block_size m) (i + 1) body) ++ drop (i + 1) found
   more-are e h =
-      ap₂ (λ (r : List (List ℤ)) (e : List ℤ). set r i e) c.loop-i.invariant.1 (h ∙ ap (decode8 2 m) digits_are)
+      ap₂ (λ (r : List (List ℤ)) (e : List ℤ). set r i e) c.loop-i.invariant (h ∙ ap (decode8 2 m) digits_are)
       ∙ rows_more point (block_size m) body found i [] room
 
 pub table_point-requires : goal.table_point-requires
 table_point-requires c = (c.requires.0, c.requires.1, is_code (goal.at.table_point-requires c).In-loop-i)
 
 pub loop-i-preserved : goal.loop-i-preserved
-loop-i-preserved c = (omega arith, more-are (goal.at.loop-i-preserved c).In-loop-i c.table_point.result c.table_point.ensures)
+loop-i-preserved c = more-are (goal.at.loop-i-preserved c).In-loop-i c.table_point.result c.table_point.ensures

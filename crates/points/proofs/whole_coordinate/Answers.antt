@@ -41,7 +41,7 @@ module _ (c : In-loop-i) where
 
   above-is : z ≡ whole_coordinate q (m - suc j) (t + suc j) l
   above-is = let next : c.loop-i.i ≡ suc j = omega arith in
-      (simp (to_z-of_z, c.ranges.q) at c.loop-i.invariant.1) ∙ ap (λ (k : ℕ). whole_coordinate q (m - k) (t + k) l) next
+      (simp (to_z-of_z, c.ranges.q) at c.loop-i.invariant) ∙ ap (λ (k : ℕ). whole_coordinate q (m - k) (t + k) l) next
 
   size : nat_abs (q *ℤ z) ≤ 2 ^ 14
   size = rw above-is (c.requires.second j within)
@@ -66,4 +66,4 @@ pub overflow_add-z-in-loop-i : goal.overflow_add-z-in-loop-i
 overflow_add-z-in-loop-i c = let p = (goal.at.overflow_add-z-in-loop-i c).In-loop-i in simp (to_z-of_z, c.ranges.q, fx p, fqz p) (fsum p)
 
 pub loop-i-preserved : goal.loop-i-preserved
-loop-i-preserved c = let p = (goal.at.loop-i-preserved c).In-loop-i in (omega (arith, within p), simp (to_z-of_z, c.ranges.q, fx p, fqz p, fsum p) (next-is p))
+loop-i-preserved c = let p = (goal.at.loop-i-preserved c).In-loop-i in simp (to_z-of_z, c.ranges.q, fx p, fqz p, fsum p) (next-is p)

@@ -1,5 +1,6 @@
 -- A binary32 pattern: its value by its fields, and what it is measured as.
-use Rattle.std.specs.Prelude.{◌≡◌, Bool, true, cond, ℕ, zero, suc, ◌+◌, ◌*◌, ◌-◌, ◌/◌, ◌%◌, ◌^◌, ◌<◌, ◌≤◌, leb, eqb, pos, Float}
+use Rattle.readings.specs.declared.Fault.TheVariants.{Missing, OutOfRange}
+use Rattle.std.specs.Prelude.{◌≡◌, Bool, true, cond, ℕ, zero, suc, ◌+◌, ◌*◌, ◌-◌, ◌/◌, ◌%◌, ◌^◌, ◌<◌, ◌≤◌, leb, eqb, pos, Float, Err}
 use Rattle.std.proofs.Common.{sym, ◌∙◌, subst, ⊎_elim, lt_irrefl, le_of_lt, lt_of_lt_of_le, le_trans, eq-or-lt_of_le, add_comm, mul-one, mul_assoc, mul-le-mul, mul-le-mul_right, mul-lt-mul_of_pos_right, lt_of_mul-lt-mul_right, arith, ne_eqb, lt-ltb, lit<, lit≤, pow_pos, pow-add, pow_mono, shl_lt}
 use Rattle.std.proofs.Math.Path.{ap}
 use Rattle.std.proofs.lemmas.Bool.{false≢true}
@@ -12,7 +13,6 @@ use Rattle.std.specs.Float.Ieee.Exact.{HasValue, odd_sign}
 use Rattle.std.specs.Float.Ieee.Bits.{nan_bits_is, nan_bits_above}
 use Rattle.readings.specs.Fractions.{signed, nearest}
 use Rattle.readings.specs.Taking.{measure_units, measure_float, measure_bits}
-use Rattle.readings.specs.declared.Measured.TheVariants.{Missing, OutOfRange}
 use Rattle.readings.proofs.Laws.Nearest.{abs-signed, nearest-small, nearest-signed-same, nearest-beyond}
 use Rattle.readings.proofs.Laws.Taking.{units-beyond, float-missing, float-units}
 
@@ -108,21 +108,21 @@ module _ (bits : ℕ) where
       → measure_bits bits ≡ measure_units (nearest (signed negative (size % 8388608 + 8388608 + (size % 8388608 + 8388608))) (2 ^ k))
   pattern-shifted k h l p = units h ∙ ap measure_units (nearest-signed-same negative _ (2 ^ 149) _ (2 ^ k) (pow_pos 149) (pow_pos k) (grains-shifted (size / 8388608) (size % 8388608) k l p))
 
-  above : size < 0x7f80_0000 → 2 ^ 163 < weight → measure_bits bits ≡ OutOfRange
+  above : size < 0x7f80_0000 → 2 ^ 163 < weight → measure_bits bits ≡ Err OutOfRange
   above h l = units h ∙ units-beyond (nearest (signed negative (1024 * weight)) (2 ^ 149))
       (nearest-beyond (signed negative (1024 * weight)) (2 ^ 149) 16777217 (pow_pos 149) (rw (abs-signed negative (1024 * weight)) (grains-above (size / 8388608) (size % 8388608) (omega arith) l)))
 
-  infinite : size ≡ 0x7f80_0000 → measure_bits bits ≡ OutOfRange
+  infinite : size ≡ 0x7f80_0000 → measure_bits bits ≡ Err OutOfRange
   unfolding of_fields measure_float
   infinite p = ap measure_float (fields ∙ ap (λ (z : ℕ). of_fields binary32 negative (z / 8388608) (z % 8388608)) p)
 
-  pub pattern-far : 0x4700_0000 ≤ size → size ≤ 0x7f80_0000 → measure_bits bits ≡ OutOfRange
+  pub pattern-far : 0x4700_0000 ≤ size → size ≤ 0x7f80_0000 → measure_bits bits ≡ Err OutOfRange
   pattern-far h k = ⊎_elim infinite (λ l. above l (grains-far (size / 8388608) (size % 8388608) (omega arith))) (eq-or-lt_of_le k)
 
   is-nan : 0x7f80_0000 < size → is_nan (of_bits binary32 bits) ≡ true
   is-nan h = sym (nan_bits_is binary32 bits) ∙ nan_bits_above binary32 bits ∙ lt-ltb 0x7f80_0000 size h
 
-  pub pattern-nan : 0x7f80_0000 < size → measure_bits bits ≡ Missing
+  pub pattern-nan : 0x7f80_0000 < size → measure_bits bits ≡ Err Missing
   pattern-nan h = float-missing (of_bits binary32 bits) (is-nan h)
 
 -- what a pattern's size tells of it
@@ -142,7 +142,7 @@ no_nan nan sign a c h p = h
 no_nan (inf t) sign a c h p = h
 no_nan (fin t m power) sign a c h p = false≢true p
 
-pub above-limit : (bits : ℕ) (sign : Bool) (a c : ℕ) → HasValue (of_bits binary32 bits) sign a c → 16384 * c < a → measure_bits bits ≡ OutOfRange
+pub above-limit : (bits : ℕ) (sign : Bool) (a c : ℕ) → HasValue (of_bits binary32 bits) sign a c → 16384 * c < a → measure_bits bits ≡ Err OutOfRange
 above-limit bits sign a c v l = elim (dec_le (size bits) 0x7f80_0000) [
   | yes k ↦ ⊎_elim (infinite bits) (λ k. above bits k (heavy k)) (eq-or-lt_of_le k)
   | no k ↦ absurd (no_nan (of_bits binary32 bits) sign a c v (is-nan bits (omega arith)))

@@ -1,5 +1,6 @@
 -- What the answers of taking a reading mean.
-use Rattle.std.specs.Prelude.{◌≡◌, refl, Bool, true, false, cond, ℕ, ◌*◌, ◌<◌, ◌≤◌, ltb, ℤ, pos, nat_abs, Float}
+use Rattle.readings.specs.declared.Fault.TheVariants.{Missing, OutOfRange}
+use Rattle.std.specs.Prelude.{◌≡◌, refl, Bool, true, false, cond, ℕ, ◌*◌, ◌<◌, ◌≤◌, ltb, ℤ, pos, nat_abs, Float, Ok, Err}
 use Rattle.std.proofs.Common.{sym, ◌∙◌, subst, arith, lt-ltb, le-ltb, ltb-false, lit≤}
 use Rattle.std.proofs.Math.Path.{ap}
 use Rattle.std.proofs.lemmas.Bool.{false≢true}
@@ -9,20 +10,17 @@ use Rattle.std.specs.Float.Ieee.Fits.{down_pos}
 use Rattle.std.specs.Float.Ieee.Exact.{HasValue}
 use Rattle.std.specs.Float.Ieee.Bits.{nan_bits_is}
 use Rattle.readings.specs.Fractions.{signed, nearest, Exactly}
-use Rattle.readings.specs.Taking.{units_most, measure_units, measure_float, InRange, measured_number, measured_units, units_value, taken_of, take_bits, taken_number, taken_value}
-use Rattle.readings.specs.declared.Measured.{Measured}
-use Rattle.readings.specs.declared.Measured.TheVariants.{Units, Missing, OutOfRange}
-use Rattle.readings.specs.declared.Taken.TheVariants as taken
+use Rattle.readings.specs.Taking.{units_most, measure_units, measure_float, InRange, measured_number, measured_units, units_value, taken_of, take_bits, taken_number, taken_value, Measured}
 use Rattle.readings.proofs.Laws.Nearest.{Nearest, nearest-is, nearest-signed-same, nearest-within, abs-signed}
 use Rattle.readings.proofs.Laws.Exact.{fraction-exact}
 
 -- ---- whole units
 
-pub units-beyond : (X : ℤ) → units_most < nat_abs X → measure_units X ≡ OutOfRange
+pub units-beyond : (X : ℤ) → units_most < nat_abs X → measure_units X ≡ Err OutOfRange
 unfolding measure_units
 units-beyond X h = rw (lt-ltb units_most (nat_abs X) h)
 
-pub units-within : (X : ℤ) → nat_abs X ≤ units_most → measure_units X ≡ Units X
+pub units-within : (X : ℤ) → nat_abs X ≤ units_most → measure_units X ≡ Ok X
 unfolding measure_units
 units-within X h = rw (le-ltb units_most (nat_abs X) h)
 
@@ -30,16 +28,16 @@ pub units-in-range : (X : ℤ) → InRange (measure_units X)
 unfolding measure_units
 units-in-range X = go (ltb units_most (nat_abs X)) refl
   where
-    go : (t : Bool) → ltb units_most (nat_abs X) ≡ t → InRange (cond t OutOfRange (Units X))
+    go : (t : Bool) → ltb units_most (nat_abs X) ≡ t → InRange (cond t (Err OutOfRange) (Ok X))
     go true p = tt
     go false p = ltb-false units_most (nat_abs X) p
 
 -- the units that are found are those that were judged
-pub units-same : (X Y : ℤ) → measure_units X ≡ Units Y → X ≡ Y
+pub units-same : (X Y : ℤ) → measure_units X ≡ Ok Y → X ≡ Y
 unfolding measure_units
 units-same X Y = go (ltb units_most (nat_abs X))
   where
-    go : (t : Bool) → cond t OutOfRange (Units X) ≡ Units Y → X ≡ Y
+    go : (t : Bool) → cond t (Err OutOfRange) (Ok X) ≡ Ok Y → X ≡ Y
     go true p = cc
     go false p = cc
 
@@ -51,14 +49,14 @@ float-in-range nan = tt
 float-in-range (inf sign) = tt
 float-in-range (fin sign m power) = units-in-range (nearest (signed sign (1024 * (m * up power))) (down power))
 
-pub float-missing : (f : Float) → is_nan f ≡ true → measure_float f ≡ Missing
+pub float-missing : (f : Float) → is_nan f ≡ true → measure_float f ≡ Err Missing
 unfolding is_nan measure_float
 float-missing nan p = refl
 float-missing (inf sign) p = absurd (false≢true p)
 float-missing (fin sign m power) p = absurd (false≢true p)
 
 -- a NaN pattern, quiet or signalling, of any sign and payload, is missing and never a value
-pub nan-missing : (bits : ℕ) → nan_bits binary32 bits ≡ true → (take_bits bits ≡ taken.Missing) × ((v : Float) → take_bits bits ≡ taken.Value v → ⊥)
+pub nan-missing : (bits : ℕ) → nan_bits binary32 bits ≡ true → (take_bits bits ≡ Err Missing) × ((v : Float) → take_bits bits ≡ Ok v → ⊥)
 nan-missing bits h =
     let m = ap taken_of (float-missing _ (sym (nan_bits_is binary32 bits) ∙ h)) in
     (m, λ v p. let clash : ◌≡◌ {A = ℕ} 4 0 = ap taken_number (sym m ∙ p) in omega arith)
@@ -77,27 +75,27 @@ module _ (f : Float) (sign : Bool) (a c : ℕ) (h : 0 < c) (value : HasValue f s
           ∙ nearest-signed-same sign (1024 * (m * up power)) (down power) (1024 * a) c (down_pos power) h (omega (arith, v.1)))
 
   -- an X that is found has X - 1/2 < 1024·(±a / c) ≤ X + 1/2
-  pub float-nearest : (X : ℤ) → measure_float f ≡ Units X → Nearest (signed sign (1024 * a)) c X
+  pub float-nearest : (X : ℤ) → measure_float f ≡ Ok X → Nearest (signed sign (1024 * a)) c X
   float-nearest X p = subst (Nearest (signed sign (1024 * a)) c) (units-same _ X (sym float-units ∙ p)) (nearest-is (signed sign (1024 * a)) c h)
 
   -- up to 16384 in magnitude there is one (past it, `above-limit`)
-  pub float-within : a ≤ 16384 * c → measure_float f ≡ Units (nearest (signed sign (1024 * a)) c)
+  pub float-within : a ≤ 16384 * c → measure_float f ≡ Ok (nearest (signed sign (1024 * a)) c)
   float-within l = float-units ∙ units-within _ (nearest-within (signed sign (1024 * a)) c units_most h (rw (abs-signed sign (1024 * a)) (omega arith)))
 
 -- ---- what is handed out
 
 pub taken-number : (m : Measured) → taken_number (taken_of m) ≡ measured_number m
-taken-number (Units X) = refl
-taken-number Missing = refl
-taken-number OutOfRange = refl
+taken-number (Ok X) = refl
+taken-number (Err Missing) = refl
+taken-number (Err OutOfRange) = refl
 
 pub taken-value : (m : Measured) → taken_value (taken_of m) ≡ units_value (measured_units m)
-taken-value (Units X) = refl
-taken-value Missing = refl
-taken-value OutOfRange = refl
+taken-value (Ok X) = refl
+taken-value (Err Missing) = refl
+taken-value (Err OutOfRange) = refl
 
 -- the value is X / 1024 with nothing lost, and +0.0 for 0
 pub taken-exact : (m : Measured) → InRange m → Exactly (taken_value (taken_of m)) (measured_units m) 1024
-taken-exact (Units X) h = fraction-exact X 10 h (lit≤ tt)
-taken-exact Missing h = fraction-exact (pos 0) 10 (lit≤ tt) (lit≤ tt)
-taken-exact OutOfRange h = fraction-exact (pos 0) 10 (lit≤ tt) (lit≤ tt)
+taken-exact (Ok X) h = fraction-exact X 10 h (lit≤ tt)
+taken-exact (Err Missing) h = fraction-exact (pos 0) 10 (lit≤ tt) (lit≤ tt)
+taken-exact (Err OutOfRange) h = fraction-exact (pos 0) 10 (lit≤ tt) (lit≤ tt)

@@ -1,4 +1,6 @@
 -- `measure_units` makes the definition's one comparison of magnitudes as a comparison at each end.
+use Rattle.std.specs.Prelude.{Ok}
+use Rattle.readings.specs.declared.Fault.TheVariants.{Missing, OutOfRange}
 use mathlib.Core.Path.{sym, ◌∙◌, ap}
 use Prim.Native.Nat.{◌≤◌, ◌<◌}
 use native.Mathlib.Omega.{arith}
@@ -8,7 +10,6 @@ use mir.Facts.{to_z-of_z}
 use Rattle.integers.specs.Laws.Difference.{by_d, ints, abs-D}
 use Rattle.integers.specs.Laws.Sizes.{lt_z-true, lt_z-false}
 use Rattle.readings.specs.Taking.{units_most}
-use Rattle.readings.specs.declared.Measured.TheVariants.{Units}
 use Rattle.readings.proofs.Laws.Taking.{units-beyond, units-within}
 use Rattle.readings.proofs.measure_units.Goals as goal
 
@@ -30,7 +31,7 @@ returns-then-x-ltminus16777216 c = let start = c.before.before in sym (units-bey
 pub returns : goal.returns
 returns c =
     let start = c.before.before in
-    ap Units (to_z-of_z start.ranges.x)
+    ap Ok (to_z-of_z start.ranges.x)
     ∙ sym (units-within start.args.x (between start.args.x
     (lt_z-false _ _ (simp (to_z-of_z, start.ranges.x) at c.before.if-x-gt16777216.false))
     (lt_z-false _ _ (simp (to_z-of_z, start.ranges.x) at c.if-x-ltminus16777216.false))))

@@ -1,5 +1,5 @@
+use Rattle.readings.specs.Taking.{Measured}
 use Rattle.std.specs.Prelude.{◌≡◌, List, ℕ, ◌+◌, ◌*◌, ◌<◌, ℤ, length, get_or}
-use Rattle.readings.specs.declared.Measured.{Measured}
 use Rattle.readings.specs.Words.{word_at, measure_at}
 use Rattle.records.proofs.Laws.Hours as hours
 use Rattle.records.specs.Eight.Vectors.{Hour, units_hour, fvecs_hour}

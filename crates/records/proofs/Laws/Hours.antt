@@ -1,5 +1,6 @@
 -- What it says of an hour, in either form, that its count and all its readings were taken.
-use Rattle.std.specs.Prelude.{◌≡◌, refl, true, List, [], ◌∷◌, map, ℕ, zero, suc, ◌+◌, ◌*◌, ◌<◌, ℤ, length, get_or}
+use Rattle.readings.specs.declared.Fault.TheVariants as fault
+use Rattle.std.specs.Prelude.{◌≡◌, refl, true, List, [], ◌∷◌, map, ℕ, zero, suc, ◌+◌, ◌*◌, ◌<◌, ℤ, length, get_or, Ok, Err}
 use Rattle.std.proofs.Common.{sym, ◌∙◌, ap, arith}
 use Rattle.std.specs.Float.{binary32}
 use Rattle.std.specs.Float.Ieee.{of_bits, nan_bits}
@@ -7,13 +8,10 @@ use Rattle.std.specs.Float.Ieee.Bits.{nan_bits_is}
 use Rattle.std.proofs.lemmas.List.{length-map}
 use Rattle.integers.specs.Laws.Loops.{range-long, range_at}
 use Rattle.integers.specs.Vectors.{Bounded, range}
-use Rattle.readings.specs.declared.Measured.{Measured}
-use Rattle.readings.specs.declared.Measured.TheVariants as measured
 use Rattle.readings.proofs.Laws.Taking.{units-in-range, units-same, float-in-range, float-missing}
-use Rattle.readings.specs.Taking.{units_most, measure_units, InRange}
+use Rattle.readings.specs.Taking.{units_most, measure_units, InRange, Measured}
 use Rattle.readings.specs.Words.{word_at, measure_at}
 use Rattle.refusals.specs.declared.Refusal.TheVariants.{Size, Record}
-use Rattle.refusals.specs.declared.Verdict.TheVariants.{Accepted}
 use Rattle.refusals.specs.Laws.Verdicts.{refused-never, unless-accepted}
 use Rattle.refusals.specs.Limits.{blocks_most}
 use Rattle.records.specs.Frames.{whole_blocks}
@@ -32,14 +30,14 @@ map-ranged f h (a ∷ l) = (h a, map-ranged f h l)
 
 pub units_small : (l : List Measured) → Ranged l → Bounded units_most (units_taken l)
 units_small [] h i = omega arith
-units_small (measured.Units X ∷ l) h zero = h.0
-units_small (measured.Units X ∷ l) h (suc i) = units_small l h.1 i
-units_small (measured.Missing ∷ l) h i = omega arith
-units_small (measured.OutOfRange ∷ l) h i = omega arith
+units_small (Ok X ∷ l) h zero = h.0
+units_small (Ok X ∷ l) h (suc i) = units_small l h.1 i
+units_small (Err fault.Missing ∷ l) h i = omega arith
+units_small (Err fault.OutOfRange ∷ l) h i = omega arith
 
 -- either form of an hour: its count is allowed where its frame is, and its readings are in range
 pub record Sound (n : ℕ) (h : Hour) : Type 0 where
-  pub counted : h.frame ≡ Accepted → whole_blocks n 1 blocks_most (length h.readings) ≡ true
+  pub counted : h.frame ≡ Ok tt → whole_blocks n 1 blocks_most (length h.readings) ≡ true
   pub ranged : Ranged h.readings
 
 pub units-sound : (n : ℕ) (x : List ℤ) → Sound n (units_hour n x)
@@ -62,23 +60,23 @@ fvecs-sound n b = record {
 }
 
 -- where no reading is refused X has one for each
-pub taken-all : (l : List Measured) → check_readings 0 l ≡ Accepted → length (units_taken l) ≡ length l
-taken-all l e = sym (length-map (units_taken l) measured.Units) ∙ ap length (sym (readings-all 0 l e))
+pub taken-all : (l : List Measured) → check_readings 0 l ≡ Ok tt → length (units_taken l) ≡ length l
+taken-all l e = sym (length-map (units_taken l) Ok) ∙ ap length (sym (readings-all 0 l e))
 
 -- and whole units are X themselves
-pub units-taken : (i : ℕ) (x : List ℤ) → check_readings i (map measure_units x) ≡ Accepted → units_taken (map measure_units x) ≡ x
+pub units-taken : (i : ℕ) (x : List ℤ) → check_readings i (map measure_units x) ≡ Ok tt → units_taken (map measure_units x) ≡ x
 units-taken i [] e = refl
 units-taken i (z ∷ x) e = go (measure_units z) refl e (units-taken (suc i) x)
   where
-    go : (r : Measured) → measure_units z ≡ r → check_readings i (r ∷ map measure_units x) ≡ Accepted → (check_readings (suc i) (map measure_units x) ≡ Accepted → units_taken (map measure_units x) ≡ x)
+    go : (r : Measured) → measure_units z ≡ r → check_readings i (r ∷ map measure_units x) ≡ Ok tt → (check_readings (suc i) (map measure_units x) ≡ Ok tt → units_taken (map measure_units x) ≡ x)
         → units_taken (r ∷ map measure_units x) ≡ z ∷ x
-    go (measured.Units Y) m e rest = let y : Y ≡ z = sym (units-same z Y m) in cons y (rest e)
+    go (Ok Y) m e rest = let y : Y ≡ z = sym (units-same z Y m) in cons y (rest e)
       where
         cons : {x y : ℤ} {a b : List ℤ} → x ≡ y → a ≡ b → x ∷ a ≡ y ∷ b
         cons p q = cc
-    go measured.Missing m e rest = refused-never e
-    go measured.OutOfRange m e rest = refused-never e
+    go (Err fault.Missing) m e rest = refused-never e
+    go (Err fault.OutOfRange) m e rest = refused-never e
 
 -- every NaN pattern of an fvecs record is a missing reading
-pub word-missing : (b : List ℕ) (i : ℕ) → nan_bits binary32 (word_at b (4 + 4 * i)) ≡ true → measure_at b (4 + 4 * i) ≡ measured.Missing
+pub word-missing : (b : List ℕ) (i : ℕ) → nan_bits binary32 (word_at b (4 + 4 * i)) ≡ true → measure_at b (4 + 4 * i) ≡ Err fault.Missing
 word-missing b i e = float-missing _ (sym (nan_bits_is binary32 (word_at b (4 + 4 * i))) ∙ e)

@@ -2,8 +2,7 @@ use Rattle.std.specs.Prelude.{List, ℕ, ◌+◌, ◌*◌, ◌/◌, ℤ, drop}
 use Rattle.layers.specs.Digits.{cut}
 use Rattle.readings.specs.Words.{word_at}
 use Rattle.refusals.specs.declared.Refusal.TheVariants.{Record}
-use Rattle.refusals.specs.declared.Verdict.{Verdict}
-use Rattle.refusals.specs.Verdicts.{unless}
+use Rattle.refusals.specs.Verdicts.{unless, Verdict}
 use Rattle.layers.specs.Code.{code8}
 use Rattle.records.specs.Codes as code
 use Rattle.records.specs.Frames.{good_record}

@@ -1,16 +1,15 @@
 -- Laws of the one check of a code record.
-use Rattle.std.specs.Prelude.{◌≡◌, refl, cond, List, [], ◌∷◌, ℕ, suc, ◌+◌, ◌*◌, ◌-◌, ◌<◌, ◌≤◌, ltb, length, get_or, take, drop}
+use Rattle.std.specs.Prelude.{◌≡◌, refl, cond, List, [], ◌∷◌, ℕ, suc, ◌+◌, ◌*◌, ◌-◌, ◌<◌, ◌≤◌, ltb, length, get_or, take, drop, Err}
 use Rattle.std.proofs.Common.{◌∙◌, ap, arith}
 use Rattle.coding.specs.Answers.{check_below}
 use Rattle.layers.specs.Digits.{cut}
 use Rattle.refusals.specs.declared.Refusal.TheVariants.{Byte}
-use Rattle.refusals.specs.declared.Verdict.TheVariants.{Refused}
 use Rattle.refusals.specs.Verdicts.{first_refusal}
 use Rattle.records.specs.Codes.{check_block, check_blocks}
 use Rattle.records.specs.Laws.Parts.{cut-next}
 
 -- a block is checked by its first byte, then by its digits
-pub block-opened : (steps q i : ℕ) (b : List ℕ) → 1 ≤ length b → check_block steps q i b ≡ cond (ltb (get_or b 0 0) steps) (check_below q (suc i) (drop 1 b)) (Refused (Byte i))
+pub block-opened : (steps q i : ℕ) (b : List ℕ) → 1 ≤ length b → check_block steps q i b ≡ cond (ltb (get_or b 0 0) steps) (check_below q (suc i) (drop 1 b)) (Err (Byte i))
 block-opened steps q i [] h = absurd (omega arith)
 block-opened steps q i (t ∷ ds) h = refl
 

@@ -1,7 +1,9 @@
 -- What a glance over blocks has found: the faults of their first bytes, and eight numbers such that no digit is past all of them.
-use Rattle.std.specs.Prelude.{◌≡◌, refl, List, ℕ, suc, ◌+◌, ◌*◌, ◌-◌, ◌<◌, ◌≤◌, length, get_or, take, drop, set}
+use Rattle.std.specs.Prelude.{◌≡◌, refl, List, ℕ, zero, suc, ◌+◌, ◌*◌, ◌-◌, ◌<◌, ◌≤◌, length, get_or, take, drop, set}
 use Rattle.std.proofs.Common.{sym, ◌∙◌, ap, subst, le_refl, arith, length-set, length-take, length-drop, get_or-set_same, get_or-set_other, get_or-take, get_or-drop}
 use Rattle.std.proofs.Math.Decide.{ℕ_discrete, dec_le}
+use Rattle.std.specs.Array.{IsFromFnResult, IsFromFnResultFrom}
+use Rattle.std.specs.Fn.{Mut, Called}
 use Rattle.layers.specs.Digits.{Below, cut}
 use Rattle.layers.specs.Laws.Rows.{below_at, below_all}
 use Rattle.layers.specs.Code.{code8}
@@ -19,6 +21,25 @@ raised-more top ds a i r x h k f o =
       | yes e ↦ subst (λ (j : ℕ). b j ≤ get_or (set r i x) j 0) (sym e) (subst (λ (y : ℕ). b i ≤ y) (sym (get_or-set_same r i x 0 (omega (arith, o.long)))) here)
       | no e ↦ subst (λ (y : ℕ). b j ≤ y) (sym (get_or-set_other r i j x 0 e)) (before j (omega arith))
     ]
+
+-- a number below neither of the two at k
+abbrev pub Over : List ℕ → List ℕ → ℕ → ℕ → ℕ → Type 0
+Over top ds a k y = (get_or top k 0 ≤ y) × (get_or ds (a + k) 0 ≤ y)
+
+-- eight entries that calls at each index gave, each below neither number of its index
+module _ {F : Type 0} (g : Mut F (ℕ × Unit {0}) ℕ) (top ds : List ℕ) (a : ℕ) {f : F} where
+  over_at : (r : List ℕ) (i n : ℕ) → i + n ≤ 8 → ((k y : ℕ) (q : F) → k < 8 → Called g f (k, tt) y q → (q ≡ f) × Over top ds a k y) → IsFromFnResultFrom g f r i n → (j : ℕ) → j < n → Over top ds a (i + j) (get_or r (i + j) 0)
+  over_at r i zero l s e j b = absurd (omega arith)
+  over_at r i (suc n) l s (q, y, p, c, e) zero b = let z : i + 0 ≡ i = omega arith in rw (z, p.1 0) (s i y q (omega arith) c).1
+  over_at r i (suc n) l s (q, y, p, c, e) (suc j) b =
+      let z : i + suc j ≡ i + 1 + j = omega arith in
+      rw z (over_at r (i + 1) n (omega arith) s (subst (λ (t : F). IsFromFnResultFrom g t r (i + 1) n) (s i y q (omega arith) c).0 e) j (omega arith))
+
+  pub raised-each : {r : List ℕ} → IsFromFnResult g f r 8 → ((k y : ℕ) (q : F) → k < 8 → Called g f (k, tt) y q → (q ≡ f) × Over top ds a k y) → Raised top ds a 8 r
+  raised-each {r} e s = record { long = e.long; kept = λ j l. (over j l).0; found = λ j l. (over j l).1 }
+    where
+      over : (j : ℕ) → j < 8 → Over top ds a j (get_or r j 0)
+      over j l = let z : 0 + j ≡ j = omega arith in subst (λ (k : ℕ). Over top ds a k (get_or r k 0)) z (over_at r 0 8 (omega arith) s e.each j l)
 
 -- a number that is not past all of eight
 abbrev pub Under : List ℕ → ℕ → Type 0

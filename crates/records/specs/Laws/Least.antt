@@ -1,13 +1,11 @@
 -- Refusal 7 names the least byte at fault: the first that is not below its limit (01, When the unit says no).
-use Rattle.std.specs.Prelude.{◌≡◌, refl, Bool, true, false, cond, ◌⊎◌, List, [], ◌∷◌, ℕ, zero, suc, ◌+◌, ◌*◌, ◌-◌, ◌%◌, ◌<◌, ◌≤◌, ltb, length, get_or, take, drop}
+use Rattle.std.specs.Prelude.{◌≡◌, refl, Bool, true, false, cond, ◌⊎◌, List, [], ◌∷◌, ℕ, zero, suc, ◌+◌, ◌*◌, ◌-◌, ◌%◌, ◌<◌, ◌≤◌, ltb, length, get_or, take, drop, Ok, Err}
 use Rattle.std.proofs.Common.{sym, ◌∙◌, ap, subst, subst₂, inl, inr, mod-eq_of_lt, arith, ltb-true, ltb-false, length-take, length-drop, get_or-take, get_or-drop}
 use Rattle.std.proofs.Math.Decide.{dec_le}
 use Rattle.std.proofs.Math.Nat.{add-mod_left}
 use Rattle.refusals.specs.declared.Refusal.TheVariants.{Byte}
-use Rattle.refusals.specs.declared.Verdict.{Verdict}
-use Rattle.refusals.specs.declared.Verdict.TheVariants.{Accepted, Refused}
 use Rattle.refusals.specs.Laws.Verdicts.{refused-never}
-use Rattle.refusals.specs.Verdicts.{first_refusal}
+use Rattle.refusals.specs.Verdicts.{first_refusal, Verdict}
 use Rattle.coding.specs.Answers.{check_below}
 use Rattle.layers.specs.Digits.{cut}
 use Rattle.records.specs.Codes.{check_block, check_blocks}
@@ -33,7 +31,7 @@ pub record Fault (limit : ℕ → ℕ) (f : List ℕ) (n i : ℕ) : Type 0 where
 
 -- a verdict on the first n bytes, the first in the place p, that names the least byte at fault
 abbrev pub Least : (ℕ → ℕ) → List ℕ → ℕ → ℕ → Verdict → Type 0
-Least limit f n p v = ((v ≡ Accepted) × Good limit f n) ⊎ ((i : ℕ) × (v ≡ Refused (Byte (p + i))) × Fault limit f n i)
+Least limit f n p v = ((v ≡ Ok tt) × Good limit f n) ⊎ ((i : ℕ) × (v ≡ Err (Byte (p + i))) × Fault limit f n i)
 
 -- the same of bytes and limits that agree
 module _ (limit other : ℕ → ℕ) (f g : List ℕ) (n : ℕ) (bytes : (j : ℕ) → j < n → get_or f j 0 ≡ get_or g j 0) (limits : (j : ℕ) → j < n → limit j ≡ other j) where
@@ -53,15 +51,15 @@ module _ (limit : ℕ → ℕ) (t : ℕ) (ds : List ℕ) (n p : ℕ) (v : Verdic
   good_more k h rest (suc j) l = rest j (omega arith)
 
   -- the first decides, then the others
-  first_byte : Least (λ (j : ℕ). limit (suc j)) ds n (suc p) v → Least limit (t ∷ ds) (suc n) p (cond (ltb t (limit 0)) v (Refused (Byte p)))
+  first_byte : Least (λ (j : ℕ). limit (suc j)) ds n (suc p) v → Least limit (t ∷ ds) (suc n) p (cond (ltb t (limit 0)) v (Err (Byte p)))
   first_byte rest = go (ltb t (limit 0)) (ltb-true t (limit 0)) (ltb-false t (limit 0)) rest
     where
-      go : (b : Bool) → (b ≡ true → t < limit 0) → (b ≡ false → limit 0 ≤ t) → Least (λ (j : ℕ). limit (suc j)) ds n (suc p) v → Least limit (t ∷ ds) (suc n) p (cond b v (Refused (Byte p)))
+      go : (b : Bool) → (b ≡ true → t < limit 0) → (b ≡ false → limit 0 ≤ t) → Least (λ (j : ℕ). limit (suc j)) ds n (suc p) v → Least limit (t ∷ ds) (suc n) p (cond b v (Err (Byte p)))
       go true x y (inl h) = inl (h.0, good_more n (x refl) h.1)
       go true x y (inr h) = let i : ℕ = h.0 in let e : suc p + i ≡ p + suc i = omega arith in
-          inr (suc i, h.1 ∙ ap (λ (j : ℕ). Refused (Byte j)) e, record { within = omega (arith, h.2.within); over = h.2.over; under = good_more i (x refl) h.2.under })
+          inr (suc i, h.1 ∙ ap (λ (j : ℕ). Err (Byte j)) e, record { within = omega (arith, h.2.within); over = h.2.over; under = good_more i (x refl) h.2.under })
       go false x y r = let e : p ≡ p + 0 = omega arith in
-          inr (0, ap (λ (j : ℕ). Refused (Byte j)) e, record { within = omega arith; over = y refl; under = λ j l. absurd (omega arith) })
+          inr (0, ap (λ (j : ℕ). Err (Byte j)) e, record { within = omega arith; over = y refl; under = λ j l. absurd (omega arith) })
 
 -- digits, and a block
 below-least : (q p : ℕ) (ds : List ℕ) → Least (λ (j : ℕ). q) ds (length ds) p (check_below q p ds)
@@ -87,7 +85,7 @@ module _ (limit : ℕ → ℕ) (f : List ℕ) (a : ℕ) where
   least-both b p v w (inl h) (inr k) = let i : ℕ = k.0 in let e : p + a + i ≡ p + (a + i) = omega arith in
       inr (
         a + i,
-        ap (λ (v : Verdict). first_refusal (v ∷ w ∷ [])) h.0 ∙ ap (λ (w : Verdict). first_refusal (w ∷ [])) k.1 ∙ ap (λ (j : ℕ). Refused (Byte j)) e,
+        ap (λ (v : Verdict). first_refusal (v ∷ w ∷ [])) h.0 ∙ ap (λ (w : Verdict). first_refusal (w ∷ [])) k.1 ∙ ap (λ (j : ℕ). Err (Byte j)) e,
         record { within = omega (arith, k.2.within); over = subst (λ (x : ℕ). limit (a + i) ≤ x) (get_or-drop a f i 0) k.2.over; under = good-both i h.1 k.2.under },
       )
 
@@ -105,7 +103,7 @@ blocks-least steps q n (suc k) p f h =
     (blocks-least steps q n k (p + n) (drop n f) (simp length-drop (omega arith)))))
 
 -- so a refusal's place is that of the least byte at fault, counted from p
-pub place-least : (steps q n k p i : ℕ) (f : List ℕ) → n * k ≤ length f → check_blocks steps q n p (cut n k f) ≡ Refused (Byte (p + i)) → Fault (limit_of steps q n) f (n * k) i
+pub place-least : (steps q n k p i : ℕ) (f : List ℕ) → n * k ≤ length f → check_blocks steps q n p (cut n k f) ≡ Err (Byte (p + i)) → Fault (limit_of steps q n) f (n * k) i
 place-least steps q n k p i f h e = go (blocks-least steps q n k p f h)
   where
     go : Least (limit_of steps q n) f (n * k) p (check_blocks steps q n p (cut n k f)) → Fault (limit_of steps q n) f (n * k) i

@@ -1,11 +1,11 @@
 -- `report_block` reports on the point that the block's own bytes decode to, which the laws keep near its readings.
+use Rattle.std.specs.Prelude.{Ok}
+use Rattle.refusals.specs.Verdicts.{Verdict}
 use Rattle.std.proofs.Common.{◌≡◌, [], nat_abs, ℕ, ◌+◌, ◌-◌, ◌*◌, ◌<◌, length, List, ◌++◌, get_or, ℤ, pos, take, drop, sym, ◌∙◌, ap, ap₂, subst, subst₂, arith, rules}
 use lib.Seq.{take_at}
 use mir.Syntax.{w32, w64}
 use mir.Val.{to_z, of_z}
 use mir.Facts.{to_z-of_z}
-use Rattle.refusals.specs.declared.Verdict.{Verdict}
-use Rattle.refusals.specs.declared.Verdict.TheVariants.{Accepted}
 use Rattle.integers.specs.Vectors.{«at»}
 use Rattle.blocks.specs.Laws.Theorems.{tried-block8, block-long8}
 use Rattle.blocks.specs.Limits.{Block}
@@ -61,4 +61,4 @@ returns c = let a = c.args in let q = nat_abs a.q in let m = a.m in let steps = 
     let t-is = simp (to_z-of_z, c.ranges.q) at c.code_block-t.ensures.answer in
     let e-is = (simp (to_z-of_z, c.ranges.q) at c.decode_one-e.ensures) ∙ point-is a.q m steps X c.requires T t-is c.if-t-steps.false _ _ _ (simp (to_z-of_z, c.ranges.q) at c.code_block-t.ensures.room) _ c.block_size-size.ensures in
     let readings : c.report_readings.result ≡ block_report q m steps X = c.report_readings.ensures ∙ ap₂ (reading_reports X) (same ∙ ap («at» steps) t-is) e-is in
-    ap (reported Accepted) readings ∙ ap (λ (w : Verdict). reported w (block_report q m steps X)) (sym (fits_next (code8 q m) steps 0 X [] (fitting a.q m steps X c.requires T t-is c.if-t-steps.false)))
+    ap (reported (Ok tt)) readings ∙ ap (λ (w : Verdict). reported w (block_report q m steps X)) (sym (fits_next (code8 q m) steps 0 X [] (fitting a.q m steps X c.requires T t-is c.if-t-steps.false)))

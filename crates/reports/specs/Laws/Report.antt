@@ -1,5 +1,6 @@
 -- What the report's code relies on: what was given is a block and its coder, and the reports on it are exact.
-use Rattle.std.specs.Prelude.{◌≡◌, refl, List, [], ◌∷◌, map, ℕ, ◌+◌, ◌*◌, ◌<◌, ◌≤◌, eqb, ℤ, pos, nat_abs, ◌*ℤ◌, ◌-ℤ◌, length, drop, ◌<ℤ◌}
+use Rattle.std.specs.Result.{result_unwrap_or}
+use Rattle.std.specs.Prelude.{◌≡◌, refl, List, [], ◌∷◌, map, ℕ, ◌+◌, ◌*◌, ◌<◌, ◌≤◌, eqb, ℤ, pos, nat_abs, ◌*ℤ◌, ◌-ℤ◌, length, drop, ◌<ℤ◌, Ok, Err}
 use Rattle.std.proofs.Common.{sym, ◌∙◌, subst, eqb-true}
 use Rattle.std.proofs.Math.Path.{ap}
 use Rattle.std.proofs.Math.Decide.{dec_le}
@@ -23,19 +24,17 @@ use Rattle.readings.specs.Taking.{units_most, measure_units}
 use Rattle.refusals.specs.declared.settings.Settings.{Settings}
 use Rattle.refusals.specs.declared.Refusal.{Refusal}
 use Rattle.refusals.specs.declared.Refusal.TheVariants.{Size}
-use Rattle.refusals.specs.declared.Verdict.{Verdict}
-use Rattle.refusals.specs.declared.Verdict.TheVariants.{Accepted, Refused}
 use Rattle.refusals.specs.Laws.Verdicts.{refused-never, unless-accepted, first-accepted, first-last, first-append}
 use Rattle.refusals.specs.Settings.{check_settings}
 use Rattle.refusals.specs.Steps.{check_steps}
-use Rattle.refusals.specs.Verdicts.{unless, first_refusal}
+use Rattle.refusals.specs.Verdicts.{unless, first_refusal, Verdict}
 use Rattle.records.specs.Eight.Codes.{Coder, step_of, whole_point}
 use Rattle.layers.specs.Code.{code8}
 use Rattle.encoding.specs.Encode.{check_fits}
 use Rattle.records.specs.Eight.Asked.{CoderTaken, coder-taken, coder-positive, steps-positive}
 use Rattle.encoding.specs.Laws.Encode.{fits-none}
 use Rattle.records.proofs.Eight.Hours.{units-sound, units_small, units-taken}
-use Rattle.reports.specs.Report.{check_report, block_report, reported, report, check_given, Reportables}
+use Rattle.reports.specs.Report.{no_readings, check_report, block_report, reported, report, check_given, Reportables}
 use Rattle.records.specs.Eight.Vectors.{units_hour, check_readings}
 
 -- what was given and not refused: allowed settings, steps to code with, and a block
@@ -53,7 +52,7 @@ module _ (c : Settings) (steps x : List ℤ) where
   abbrev fitting : Verdict
   fitting = check_fits (code8 (nat_abs c.q) (nat_abs c.m)) steps 0 (x ∷ [])
 
-  pub given-taken : check_given c steps x ≡ Accepted → Given c steps x
+  pub given-taken : check_given c steps x ≡ Ok tt → Given c steps x
   given-taken e =
       let s = first-accepted (check_settings c) (check_steps 0 steps ∷ eight ∷ taken ∷ []) e in let l = first-accepted (check_steps 0 steps) (eight ∷ taken ∷ []) s.1 in
       let n = first-accepted eight (taken ∷ []) l.1 in let r = first-accepted taken [] n.1 in
@@ -67,11 +66,11 @@ module _ (c : Settings) (steps x : List ℤ) where
   report-opened v e = first-append (check_settings c ∷ check_steps 0 steps ∷ eight ∷ taken ∷ []) (fitting ∷ []) ∙ ap (λ (w : Verdict). first_refusal (w ∷ fitting ∷ [])) e
 
   -- what was given is refused, or whether a step fits is the last check
-  pub report-refused : (r : Refusal) → check_given c steps x ≡ Refused r → check_report c steps x ≡ Refused r
-  report-refused r e = report-opened (Refused r) e
+  pub report-refused : (r : Refusal) → check_given c steps x ≡ Err r → check_report c steps x ≡ Err r
+  report-refused r e = report-opened (Err r) e
 
-  pub report-last : check_given c steps x ≡ Accepted → check_report c steps x ≡ fitting
-  report-last e = report-opened Accepted e ∙ first-last fitting
+  pub report-last : check_given c steps x ≡ Ok tt → check_report c steps x ≡ fitting
+  report-last e = report-opened (Ok tt) e ∙ first-last fitting
 
 -- a block that a listed step fits
 module _ (q : ℤ) (m : ℕ) (steps : List ℤ) (coder : Coder q m steps) (X : List ℤ) (block : Block X) (h : first_fitting e8 nearest (nat_abs q) m steps X < length steps) where
@@ -113,13 +112,13 @@ module _ (q : ℤ) (m : ℕ) (steps : List ℤ) (coder : Coder q m steps) (X : L
   }
 
 -- an answer has eight readings, refused or not
-pub report-long : (c : Settings) (steps x : List ℤ) → length (report c steps x).readings ≡ 8
+pub report-long : (c : Settings) (steps x : List ℤ) → length (result_unwrap_or (report c steps x) no_readings) ≡ 8
 unfolding report
 report-long c steps x = go (check_report c steps x)
   where
-    go : (v : Verdict) → length (reported v (block_report (nat_abs c.q) (nat_abs c.m) steps x)).readings ≡ 8
-    go Accepted = refl
-    go (Refused r) = refl
+    go : (v : Verdict) → length (result_unwrap_or (reported v (block_report (nat_abs c.q) (nat_abs c.m) steps x)) no_readings) ≡ 8
+    go (Ok u) = refl
+    go (Err r) = refl
 
 -- the three numbers of a reading X that was decoded as s·e / 2048, with nothing lost
 pub record ExactReading (r : Reading) (X s e : ℤ) : Type 0 where
@@ -128,14 +127,14 @@ pub record ExactReading (r : Reading) (X s e : ℤ) : Type 0 where
   pub difference : Exactly r.difference (pos 2 *ℤ X -ℤ s *ℤ e) 2048
 
 -- a report that is not refused
-module _ (c : Settings) (steps x : List ℤ) (ok : check_report c steps x ≡ Accepted) where
+module _ (c : Settings) (steps x : List ℤ) (ok : check_report c steps x ≡ Ok tt) where
   abbrev q : ℕ
   q = nat_abs c.q
 
   abbrev m : ℕ
   m = nat_abs c.m
 
-  checked : (check_given c steps x ≡ Accepted) × (fitting c steps x ≡ Accepted)
+  checked : (check_given c steps x ≡ Ok tt) × (fitting c steps x ≡ Ok tt)
   checked = let t = first-accepted (check_given c steps x) (fitting c steps x ∷ []) (sym (report-opened c steps x _ refl) ∙ ok) in (t.0, sym (first-last (fitting c steps x)) ∙ t.1)
 
   fits : first_fitting e8 nearest q m steps x < length steps
@@ -150,12 +149,12 @@ module _ (c : Settings) (steps x : List ℤ) (ok : check_report c steps x ≡ Ac
   abbrev reading : ℕ → Reading
   reading i = report_reading («at» x i) (step_of steps bytes) («at» (whole_point q m bytes) i)
 
-  entry : (i : ℕ) (d : Reading) → i < 8 → get_or (report c steps x).readings i d ≡ reading i
+  entry : (i : ℕ) (d : Reading) → i < 8 → get_or (result_unwrap_or (report c steps x) no_readings) i d ≡ reading i
   unfolding report
-  entry i d h = let z : 0 + i ≡ i = omega arith in ap (λ (v : Verdict). get_or (reported v (block_report q m steps x)).readings i d) ok ∙ range_at reading 0 8 i d h ∙ ap reading z
+  entry i d h = let z : 0 + i ≡ i = omega arith in ap (λ (v : Verdict). get_or (result_unwrap_or (reported v (block_report q m steps x)) no_readings) i d) ok ∙ range_at reading 0 8 i d h ∙ ap reading z
 
   -- has, for each of the eight readings, three exact numbers (01, Layers and steps)
-  pub report-exact : (i : ℕ) (d : Reading) → i < 8 → ExactReading (get_or (report c steps x).readings i d) («at» x i) (step_of steps bytes) («at» (whole_point q m bytes) i)
+  pub report-exact : (i : ℕ) (d : Reading) → i < 8 → ExactReading (get_or (result_unwrap_or (report c steps x) no_readings) i d) («at» x i) (step_of steps bytes) («at» (whole_point q m bytes) i)
   report-exact i d h =
       let X : ℤ = «at» x i in let s : ℤ = step_of steps bytes in let e : ℤ = «at» (whole_point q m bytes) i in let g = given-taken c steps x checked.0 in
       let can : Reportable X s e = (block-reportable c.q m steps g.taken.coder x g.block fits).each i h in

@@ -14,9 +14,6 @@ use Rattle.integers.specs.Laws.Signed.{<ℤ-weak, trichotomy}
 use Rattle.integers.specs.Laws.Sizes.{abs-add, abs-sub, abs-mul, abs-mul-le, le_z-true, le_z-false, lt_z-true, lt_z-false, le_z-not, lt_z-not}
 use Rattle.integers.specs.Laws.Sums.{at_map}
 use Rattle.integers.specs.Vectors.{«at», sum_v, dot, Bounded}
-use Rattle.rounding.specs.declared.half.Mend.{Mend}
-use Rattle.rounding.specs.declared.half.Scan.{Scan}
-use Rattle.rounding.specs.declared.point.Choice.{Choice}
 use Rattle.lattice.specs.Computed.{lesser, nearest_d, spread, lower, nearest_half, nearest_point}
 use Rattle.lattice.specs.Doubled.{par}
 use Rattle.lattice.specs.Laws.Dn.{nearest_d-least}
@@ -27,7 +24,7 @@ use Rattle.rounding.proofs.Laws.Mended.{mend-nearest, mend-cost, mend-first}
 use Rattle.lattice.specs.Laws.Parity.{parities}
 use Rattle.rounding.proofs.Laws.Scans.{scan-sum, scan-even, scan-odd, scan-top, twin-at, odd-top, odd-parity}
 use Rattle.lattice.specs.Nearest.{cost}
-use Rattle.rounding.specs.Pass.{Ranged, Small, scanned, mended, first, lead, even_mend, odd_mend, chosen, choose, spread_by}
+use Rattle.rounding.specs.Pass.{Scan, Mend, Choice, Ranged, Small, scanned, mended, first, lead, even_mend, odd_mend, chosen, choose, spread_by}
 use Rattle.rounding.specs.Rounding.{round, left, sign, Divisor}
 
 -- ---- two tests are one where they cannot differ
@@ -315,9 +312,9 @@ module _ (s : ℤ) (s> : pos 0 <ℤ s) (d : List ℤ) (long : length d ≡ 8) wh
 
   -- the half of the choice, mended
   abbrev made : Choice → List ℤ
-  made h = let e : List ℤ = spread_by h.parity f a in set e h.mend.place («at» e h.mend.place +ℤ h.mend.step)
+  made h = let e : List ℤ = spread_by h.parity f a in set e h.place («at» e h.place +ℤ h.step)
 
-  place-small : (b : Bool) → (choose b x y).mend.place < 8
+  place-small : (b : Bool) → (choose b x y).place < 8
   unfolding mended
   place-small true = (top-place (scan-top s f a)).within
   place-small false = (top-place (odd-top s s> d long)).within
@@ -331,10 +328,10 @@ module _ (s : ℤ) (s> : pos 0 <ℤ s) (d : List ℤ) (long : length d ≡ 8) wh
       ∙ spread-set 1 g y.place n.0 (omega (arith, place-small false, length-map L (round S), long_L)) ∙ ap (spread 1) n.2
 
   -- how large its numbers are
-  pub chosen-small : Divisor s → Ranged s c → let h = chosen s c (sign («at» a 0)) in (nat_abs h.parity ≤ 1) × (h.mend.place < 8) × (nat_abs h.mend.step ≤ 2)
+  pub chosen-small : Divisor s → Ranged s c → let h = chosen s c (sign («at» a 0)) in (nat_abs h.parity ≤ 1) × (h.place < 8) × (nat_abs h.step ≤ 2)
   chosen-small h k = rw chosen_is (go t)
     where
-      go : (b : Bool) → (nat_abs (choose b x y).parity ≤ 1) × ((choose b x y).mend.place < 8) × (nat_abs (choose b x y).mend.step ≤ 2)
+      go : (b : Bool) → (nat_abs (choose b x y).parity ≤ 1) × ((choose b x y).place < 8) × (nat_abs (choose b x y).step ≤ 2)
       go true = (omega arith, place-small true, (mended-small s h c.most k.most (eqb (par (sum_v f)) 1)).step)
       go false = (omega arith, place-small false, (mended-small s h (16 * nat_abs s + 15 - c.least) (omega (arith, h.most)) (eqb (par (sum_v g)) 1)).step)
 

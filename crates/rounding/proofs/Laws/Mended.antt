@@ -14,7 +14,6 @@ use Rattle.integers.specs.Laws.Difference.{by_d, ints}
 use Rattle.integers.specs.Laws.Signed.{*ℤ-+ℤ}
 use Rattle.integers.specs.Laws.Sums.{at_map, sized-map}
 use Rattle.integers.specs.Vectors.{square, «at», sum_v, dot, Sized}
-use Rattle.rounding.specs.declared.half.Mend.{Mend}
 use Rattle.lattice.specs.Computed.{nearest_d}
 use Rattle.lattice.specs.Doubled.{par}
 use Rattle.lattice.specs.Laws.Dn.{Summed, nearest_d-least}
@@ -26,7 +25,7 @@ use Rattle.rounding.proofs.Laws.Places.{place-nearest, place_same}
 use Rattle.rounding.proofs.Laws.Reciprocals.{left-small, round-small}
 use Rattle.rounding.proofs.Laws.Rounds.{rounds-least}
 use Rattle.lattice.specs.Nearest.{cost}
-use Rattle.rounding.specs.Pass.{mended, first}
+use Rattle.rounding.specs.Pass.{Mend, mended, first}
 use Rattle.rounding.specs.Rounding.{round, left, sign, turn, changed, Divisor, spot}
 
 -- ---- the sizes of the entries

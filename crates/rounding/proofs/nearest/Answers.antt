@@ -1,4 +1,7 @@
 -- `nearest` answers the computed point where nothing is refused, and that point is the nearest by its definition.
+use Rattle.std.specs.Prelude.{Ok, Err}
+use Rattle.std.proofs.Common.{rules}
+use Rattle.refusals.specs.Verdicts.{Verdict}
 use mathlib.Core.Path.{◌≡◌, sym, ◌∙◌, ap}
 use Prim.Native.Nat.{◌^◌}
 use native.Mathlib.Omega.{arith}
@@ -9,12 +12,9 @@ use lib.IntN.{ℤ}
 use mir.Facts.{to_z-of_z, sfits_widen}
 use Rattle.integers.specs.Laws.Linear.{Z}
 use Rattle.integers.specs.Laws.Sums.{sized-more}
-use Rattle.refusals.specs.declared.Verdict.{Verdict}
-use Rattle.refusals.specs.declared.Verdict.TheVariants.{Accepted}
-use Rattle.refusals.specs.Laws.Verdicts.{refused-never}
-use Rattle.lattice.specs.declared.PointAnswer.{PointAnswer}
+use Rattle.refusals.specs.Laws.Verdicts.{valued-ok, valued-err}
 use Rattle.lattice.specs.Computed.{nearest_point}
-use Rattle.lattice.specs.Answers.{answered, check_nearest, nearest}
+use Rattle.lattice.specs.Answers.{check_nearest, nearest}
 use Rattle.lattice.specs.Laws.Asked.{Asked, accepted-asked, nearest-sized}
 use Rattle.lattice.specs.Laws.Theorems.{nearest8}
 use Rattle.rounding.proofs.nearest.Goals as goal
@@ -24,18 +24,18 @@ module _ (d : List ℤ) (s : ℤ) (v : Verdict) (f : SFits w32 s) (e : v ≡ che
   judged : v ≡ check_nearest d s
   judged = simp (to_z-of_z, f) at e
 
-  asked : v ≡ Accepted → Asked d s
+  asked : v ≡ Ok tt → Asked d s
   asked a = accepted-asked d s (sym judged ∙ a)
 
 pub widen-requires : goal.widen-requires
-widen-requires c = (asked c.args.d.now c.args.s _ c.ranges.s c.check_nearest.ensures c.in-Accepted.is).input.long
+widen-requires c = (asked c.args.d.now c.args.s _ c.ranges.s c.check_nearest.ensures c.in_ok-check_nearest.was).input.long
 
 pub overflow_cast-s : goal.overflow_cast-s
 overflow_cast-s c = simp (to_z-of_z, c.ranges.s) (sfits_widen tt c.ranges.s)
 
 pub nearest_point-e-requires : goal.nearest_point-e-requires
 nearest_point-e-requires c =
-    let a = asked c.args.d.now c.args.s _ c.ranges.s c.check_nearest.ensures c.in-Accepted.is in let wide : SFits w64 c.args.s = sfits_widen tt c.ranges.s in
+    let a = asked c.args.d.now c.args.s _ c.ranges.s c.check_nearest.ensures c.in_ok-check_nearest.was in let wide : SFits w64 c.args.s = sfits_widen tt c.ranges.s in
     simp (to_z-of_z, c.ranges.s, wide) (record { least = a.least; most = omega (arith, a.most) }, rw c.widen.ensures (sized-more 8 (2 ^ 26) c.args.d.now a.input (2 ^ 30) (omega arith)))
 
 -- the point found
@@ -43,20 +43,21 @@ found : (d e w : List ℤ) (s : ℤ) → SFits w32 s → e ≡ nearest_point (to
 found d e w s f h k = let wide : SFits w64 s = sfits_widen tt f in (simp (to_z-of_z, f, wide) at h) ∙ ap (nearest_point s) k
 
 pub narrow-requires : goal.narrow-requires
-narrow-requires c = rw (found c.args.d.now _ _ c.args.s c.ranges.s c.nearest_point-e.ensures c.widen.ensures) (nearest-sized c.args.d.now c.args.s (asked c.args.d.now c.args.s _ c.ranges.s c.check_nearest.ensures c.in-Accepted.is))
+narrow-requires c = rw (found c.args.d.now _ _ c.args.s c.ranges.s c.nearest_point-e.ensures c.widen.ensures) (nearest-sized c.args.d.now c.args.s (asked c.args.d.now c.args.s _ c.ranges.s c.check_nearest.ensures c.in_ok-check_nearest.was))
 
-pub returns-in-Refused : goal.returns-in-Refused
+pub returns-in_err-check_nearest-clause-answer : goal.returns-in_err-check_nearest-clause-answer
 unfolding nearest
-returns-in-Refused c = let s = c.args.s in let d = c.args.d.now in let v = sym (judged d s _ c.ranges.s c.check_nearest.ensures) ∙ c.in-Refused.is in record {
-  answer = c.refused.ensures ∙ ap (λ (w : Verdict). answered w (nearest_point s d)) (sym v);
-  closest = λ h. refused-never (ap (λ (a : PointAnswer). a.verdict) (sym c.refused.ensures) ∙ h);
-}
+returns-in_err-check_nearest-clause-answer c =
+    let s = c.args.s in let d = c.args.d.now in let e : c.from_residual.result ≡ Err c.in_err-check_nearest.field-0.0 = search rules in
+    e ∙ sym (valued-err (nearest_point s d) (sym (judged d s _ c.ranges.s c.check_nearest.ensures) ∙ c.in_err-check_nearest.was))
 
-pub returns-in-Accepted : goal.returns-in-Accepted
+pub returns-clause-answer : goal.returns-clause-answer
 unfolding nearest
-returns-in-Accepted c =
-    let s = c.args.s in let d = c.args.d.now in let a = asked d s _ c.ranges.s c.check_nearest.ensures c.in-Accepted.is in
-    let e : c.narrow.result ≡ nearest_point s d = c.narrow.ensures ∙ found d _ _ s c.ranges.s c.nearest_point-e.ensures c.widen.ensures in record {
-      answer = rw e (ap (λ (w : Verdict). answered w (nearest_point s d)) (sym (sym (judged d s _ c.ranges.s c.check_nearest.ensures) ∙ c.in-Accepted.is)));
-      closest = λ h. rw e (nearest8 s (omega (arith, Z, a.least)) d a.input.long);
-    }
+returns-clause-answer c =
+    let s = c.args.s in let d = c.args.d.now in
+    ap Ok (c.narrow.ensures ∙ found d _ _ s c.ranges.s c.nearest_point-e.ensures c.widen.ensures) ∙ sym (valued-ok (nearest_point s d) (sym (judged d s _ c.ranges.s c.check_nearest.ensures) ∙ c.in_ok-check_nearest.was))
+
+pub returns-clause-closest : goal.returns-clause-closest
+returns-clause-closest c =
+    let s = c.args.s in let d = c.args.d.now in let a = asked d s _ c.ranges.s c.check_nearest.ensures c.in_ok-check_nearest.was in
+    rw (c.narrow.ensures ∙ found d _ _ s c.ranges.s c.nearest_point-e.ensures c.widen.ensures) (nearest8 s (omega (arith, Z, a.least)) d a.input.long)

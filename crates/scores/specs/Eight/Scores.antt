@@ -1,10 +1,10 @@
 -- Each is the general one at `code8 q m`, by computation. A proof that looks into one unfolds the general one.
+use Rattle.refusals.specs.Verdicts.{Verdict}
+use Rattle.refusals.specs.Answers.{Answer}
 use Rattle.std.specs.Prelude.{List, ℕ, ℤ}
 use Rattle.layers.specs.Code.{code8, eight_of}
 use Rattle.records.specs.Vectors.{Hour}
-use Rattle.refusals.specs.declared.Answer.{Answer}
 use Rattle.refusals.specs.declared.settings.Settings.{Settings}
-use Rattle.refusals.specs.declared.Verdict.{Verdict}
 use Rattle.scores.specs.Scores as score
 pub use Rattle.scores.specs.Scores.{Scored, total}
 unfoldable pub use Rattle.scores.specs.Scores.{inner}

@@ -1,5 +1,5 @@
 -- The order of a pair score, and what it says that two records were taken for one.
-use Rattle.std.specs.Prelude.{◌≡◌, ℕ, ℤ, length}
+use Rattle.std.specs.Prelude.{◌≡◌, ℕ, ℤ, length, Ok}
 use Rattle.std.proofs.Common.{◌∙◌}
 use Rattle.std.proofs.Math.Path.{ap₂}
 use mathlib.Core.List.{List, [], ◌∷◌}
@@ -7,13 +7,11 @@ use Rattle.layers.specs.Code.{Code}
 use Rattle.records.specs.Codes.{blocks_in, CoderTaken, RecordTaken}
 use Rattle.records.specs.Laws.Asked.{coder-taken}
 use Rattle.refusals.specs.declared.settings.Settings.{Settings}
-use Rattle.refusals.specs.declared.Verdict.{Verdict}
-use Rattle.refusals.specs.declared.Verdict.TheVariants.{Accepted}
 use Rattle.refusals.specs.Laws.Verdicts.{first-accepted, first-append, first_group}
 use Rattle.refusals.specs.Limits.{blocks_most}
 use Rattle.refusals.specs.Settings.{check_settings}
 use Rattle.refusals.specs.Steps.{check_steps}
-use Rattle.refusals.specs.Verdicts.{first_refusal}
+use Rattle.refusals.specs.Verdicts.{first_refusal, Verdict}
 use Rattle.scores.specs.Laws.Asked.{code-taken}
 use Rattle.scores.specs.Scores.{check_code, check_pair}
 
@@ -39,7 +37,7 @@ module _ (C : Code) (c : Settings) (steps : List ℤ) (b : List ℕ) (steps' : L
       first-append (check_settings c ∷ check_steps 0 steps ∷ []) (check_steps 1 steps' ∷ here ∷ there ∷ [])
       ∙ ap₂ (λ (v w : Verdict). first_refusal (v ∷ w ∷ here ∷ there ∷ [])) d e ∙ first_group (v ∷ w ∷ []) (here ∷ there ∷ []) []
 
-  pub pair-taken : check_pair C c steps b steps' b' ≡ Accepted → PairTaken C c steps b steps' b'
+  pub pair-taken : check_pair C c steps b steps' b' ≡ Ok tt → PairTaken C c steps b steps' b'
   unfolding check_pair
   pair-taken e =
       let listed : Verdict = check_steps 0 steps in let listed' : Verdict = check_steps 1 steps' in

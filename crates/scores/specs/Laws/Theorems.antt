@@ -1,5 +1,8 @@
 -- What scores say: an accepted one is the exact inner product of what the records decode to, and small; a null is refused by its place.
-use Rattle.std.specs.Prelude.{◌≡◌, true, ◌*ℤ◌, get_or, drop}
+use Rattle.readings.specs.declared.Fault.TheVariants as fault
+use Rattle.readings.specs.Taking.{Measured}
+use Rattle.std.specs.Result.{result_unwrap_or}
+use Rattle.std.specs.Prelude.{◌≡◌, true, ◌*ℤ◌, get_or, drop, Ok, Err}
 use Rattle.std.proofs.Math.Path.{sym, ap, subst}
 use Rattle.std.proofs.Common.{◌∙◌, mul-le-mul}
 use mathlib.Core.List.{List, [], ◌∷◌, map}
@@ -16,8 +19,6 @@ use Rattle.integers.specs.Laws.Sums.{dot-scale, dot-scale-r, sized-part}
 use Rattle.integers.specs.Vectors.{scale_v, dot, Sized}
 use Rattle.lattice.specs.Doubled.{E8}
 use Rattle.layers.specs.Digits.{joined}
-use Rattle.readings.specs.declared.Measured.{Measured}
-use Rattle.readings.specs.declared.Measured.TheVariants as measured
 use Rattle.readings.specs.Words.{word_at, measure_at}
 use Rattle.layers.specs.Code.{Code, size_of, eight_of}
 use Rattle.records.specs.Codes.{IsBlock, block_size, blocks_in, code_blocks, step_of, whole_point}
@@ -29,13 +30,11 @@ use Rattle.records.proofs.Laws.Vectors.{AllUnits, first-missing, first-beyond}
 use Rattle.records.specs.Vectors.{Hour, fvecs_hour, units_taken, blocks_of, in_blocks}
 use Rattle.refusals.specs.declared.settings.Settings.{Settings}
 use Rattle.refusals.specs.declared.Refusal.TheVariants.{Missing, OutOfRange}
-use Rattle.refusals.specs.declared.Verdict.{Verdict}
-use Rattle.refusals.specs.declared.Verdict.TheVariants.{Accepted, Refused}
 use Rattle.refusals.specs.Answers.{valued}
 use Rattle.refusals.specs.Limits.{blocks_most}
 use Rattle.refusals.specs.Settings.{check_settings}
 use Rattle.refusals.specs.Steps.{check_steps}
-use Rattle.refusals.specs.Verdicts.{first_refusal}
+use Rattle.refusals.specs.Verdicts.{first_refusal, Verdict}
 use Rattle.scores.specs.Laws.Asked.{taken-block, exact-blocks, hour-last}
 use Rattle.scores.specs.Laws.Inner.{inner-four}
 use Rattle.scores.specs.Laws.Pair.{PairTaken, pair-taken}
@@ -80,7 +79,7 @@ module _ (c : Settings) where
 
   -- a query
 
-  module _ (steps : List ℤ) (h : Hour) (b : List ℕ) (sound : Sound size h) (ok : check_query C c steps h b ≡ Accepted) where
+  module _ (steps : List ℤ) (h : Hour) (b : List ℕ) (sound : Sound size h) (ok : check_query C c steps h b ≡ Ok tt) where
     abbrev X : List ℤ
     X = units_taken h.readings
 
@@ -88,11 +87,11 @@ module _ (c : Settings) where
     coded = code_blocks C b
 
     abbrev score : ℤ
-    score = (query_score C c steps h b).value
+    score = result_unwrap_or (query_score C c steps h b) (pos 0)
 
     score-is : score ≡ query_total C steps X b
     unfolding query_score
-    score-is = ap (λ (v : Verdict). (valued v (query_total C steps X b)).value) ok
+    score-is = ap (λ (v : Verdict). result_unwrap_or (valued v (query_total C steps X b)) (pos 0)) ok
 
     taken : QueryTaken C c steps h b
     taken = query-taken C c steps h b sound ok
@@ -140,7 +139,7 @@ module _ (c : Settings) where
 
   -- a pair
 
-  module _ (steps : List ℤ) (b : List ℕ) (steps' : List ℤ) (b' : List ℕ) (ok : check_pair C c steps b steps' b' ≡ Accepted) where
+  module _ (steps : List ℤ) (b : List ℕ) (steps' : List ℤ) (b' : List ℕ) (ok : check_pair C c steps b steps' b' ≡ Ok tt) where
     abbrev first : List (List ℕ)
     first = code_blocks C b
 
@@ -148,11 +147,11 @@ module _ (c : Settings) where
     second = code_blocks C b'
 
     abbrev pair : ℤ
-    pair = (pair_score C c steps b steps' b').value
+    pair = result_unwrap_or (pair_score C c steps b steps' b') (pos 0)
 
     pair-value : pair ≡ pair_total C steps steps' b b'
     unfolding pair_score
-    pair-value = ap (λ (v : Verdict). (valued v (pair_total C steps steps' b b')).value) ok
+    pair-value = ap (λ (v : Verdict). result_unwrap_or (valued v (pair_total C steps steps' b b')) (pos 0)) ok
 
     both : PairTaken C c steps b steps' b'
     both = pair-taken C c steps b steps' b' ok
@@ -209,18 +208,18 @@ module _ (c : Settings) where
 
 -- ---- refusals of a query
 
-module _ (C : Code) (c : Settings) (steps : List ℤ) (h : Hour) (b : List ℕ) (asked : first_refusal (check_settings c ∷ check_steps 0 steps ∷ h.frame ∷ []) ≡ Accepted)
+module _ (C : Code) (c : Settings) (steps : List ℤ) (h : Hour) (b : List ℕ) (asked : first_refusal (check_settings c ∷ check_steps 0 steps ∷ h.frame ∷ []) ≡ Ok tt)
     (i : ℕ) (d : Measured) (within : i < length h.readings) (before : AllUnits i h.readings d) where
   -- the first reading that is missing is named by 4, whatever the record is
-  pub null-refused : get_or h.readings i d ≡ measured.Missing → check_query C c steps h b ≡ Refused (Missing i)
+  pub null-refused : get_or h.readings i d ≡ Err fault.Missing → check_query C c steps h b ≡ Err (Missing i)
   null-refused e = query-refused C c steps h b (Missing i) (hour-last c steps h asked ∙ first-missing i h.readings d within before e)
 
   -- and the first that is out of range by 5
-  pub beyond-refused : get_or h.readings i d ≡ measured.OutOfRange → check_query C c steps h b ≡ Refused (OutOfRange i)
+  pub beyond-refused : get_or h.readings i d ≡ Err fault.OutOfRange → check_query C c steps h b ≡ Err (OutOfRange i)
   beyond-refused e = query-refused C c steps h b (OutOfRange i) (hour-last c steps h asked ∙ first-beyond i h.readings d within before e)
 
 -- so the first NaN of an fvecs record is named by 4
-pub nan-refused : (C : Code) (c : Settings) (steps : List ℤ) (r b : List ℕ) (i : ℕ) → first_refusal (check_settings c ∷ check_steps 0 steps ∷ (fvecs_hour (size_of C) r).frame ∷ []) ≡ Accepted → i < word_at r 0
-    → ((j : ℕ) → j < i → (X : ℤ) × (measure_at r (4 + 4 * j) ≡ measured.Units X)) → nan_bits binary32 (word_at r (4 + 4 * i)) ≡ true → check_query C c steps (fvecs_hour (size_of C) r) b ≡ Refused (Missing i)
-nan-refused C c steps r b i asked h before e = let d : Measured = measured.Missing in
+pub nan-refused : (C : Code) (c : Settings) (steps : List ℤ) (r b : List ℕ) (i : ℕ) → first_refusal (check_settings c ∷ check_steps 0 steps ∷ (fvecs_hour (size_of C) r).frame ∷ []) ≡ Ok tt → i < word_at r 0
+    → ((j : ℕ) → j < i → (X : ℤ) × (measure_at r (4 + 4 * j) ≡ Ok X)) → nan_bits binary32 (word_at r (4 + 4 * i)) ≡ true → check_query C c steps (fvecs_hour (size_of C) r) b ≡ Err (Missing i)
+nan-refused C c steps r b i asked h before e = let d : Measured = Err fault.Missing in
     null-refused C c steps (fvecs_hour (size_of C) r) b asked i d (omega (arith, fvecs-count (size_of C) r)) (λ j k. ((before j k).0, fvecs-reading (size_of C) r j d (omega arith) ∙ (before j k).1)) (fvecs-reading (size_of C) r i d h ∙ word-missing r i e)

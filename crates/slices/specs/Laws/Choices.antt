@@ -9,7 +9,7 @@ use Rattle.columns.specs.Columns.{column}
 use Rattle.columns.specs.Narrow.{brief, scanned_from}
 use Rattle.layers.proofs.Laws.Bases.{base-two}
 use Rattle.layers.specs.Sizes.{Base}
-use Rattle.rounding.specs.declared.half.Scan.{Scan}
+use Rattle.rounding.specs.Pass.{Scan}
 use Rattle.rounding.specs.Pass.{scanned, chosen}
 use Rattle.rounding.specs.Rounding.{round, left, sign}
 use Rattle.slices.specs.Lanes.{low_at, lane_at, high_at, scan_at, Lows, code_by, Run, RunPut}

@@ -5,9 +5,9 @@ use Rattle.std.proofs.Math.Nat.{add-mul-mod_self_left}
 use Rattle.std.specs.Int.Signed.{lt_z}
 use Rattle.integers.specs.Laws.Difference.{ints}
 use Rattle.lattice.specs.Doubled.{par}
-use Rattle.columns.specs.declared.narrow.Choice as choices
+use Rattle.rounding.specs.Pass as choices
 use Rattle.columns.specs.Narrow.{brief}
-use Rattle.rounding.specs.declared.half.Scan.{Scan}
+use Rattle.rounding.specs.Pass.{Scan}
 use Rattle.rounding.specs.Pass.{mended, lead, even_mend, odd_mend, choose, chosen}
 use Rattle.rounding.specs.Rounding.{spot}
 use Rattle.slices.specs.Slices.{code_of, choice_by}

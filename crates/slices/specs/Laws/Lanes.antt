@@ -16,7 +16,7 @@ use Rattle.layers.proofs.Laws.Bases.{base-two, base-divisor}
 use Rattle.layers.specs.Laws.Entries.{digits_of-layer}
 use Rattle.layers.specs.Laws.Rows.{below_at}
 use Rattle.layers.specs.Sizes.{Base}
-use Rattle.rounding.specs.declared.half.Scan.{Scan}
+use Rattle.rounding.specs.Pass.{Scan}
 use Rattle.rounding.proofs.Laws.Choice.{sign_small}
 use Rattle.slices.specs.Lanes.{lane_of, scan_of, Lane, LanePut, low_at, lane_at, high_at, scan_at, Lows}
 use Rattle.slices.specs.Laws.Merging.{part-merge}

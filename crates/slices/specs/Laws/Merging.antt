@@ -9,9 +9,9 @@ use Rattle.integers.specs.Laws.Difference.{ints, by_d₂}
 use Rattle.integers.specs.Laws.Sizes.{abs-add}
 use Rattle.integers.specs.Vectors.{square, «at»}
 use Rattle.columns.specs.Laws.Narrow.{from_first}
-use Rattle.columns.specs.Narrow.{Part, scanned_from}
-use Rattle.rounding.specs.declared.half.Scan.{Scan}
-use Rattle.rounding.specs.Pass.{seen, scanned}
+use Rattle.columns.specs.Narrow.{Part}
+use Rattle.rounding.specs.Pass.{Scan}
+use Rattle.rounding.specs.Pass.{seen, scanned, scanned_from}
 use Rattle.rounding.specs.Rounding.{key, lowered}
 use Rattle.slices.specs.Slices.{merge}
 

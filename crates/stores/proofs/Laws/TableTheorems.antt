@@ -1,11 +1,11 @@
 -- What a search by a lent table says: its whole answer is that of the plain search; what the table then holds, and that each score looked up in it is the plain one; a null is refused by its place.
-use Rattle.std.specs.Prelude.{◌≡◌, refl, Bool, ℕ, ◌*◌, ◌/◌, ◌<◌, ◌≤◌, ℤ, nat_abs, length, get_or}
+use Rattle.readings.specs.declared.Fault.TheVariants as fault
+use Rattle.readings.specs.Taking.{Measured}
+use Rattle.std.specs.Prelude.{◌≡◌, refl, Bool, ℕ, ◌*◌, ◌/◌, ◌<◌, ◌≤◌, ℤ, nat_abs, length, get_or, Ok, Err}
 use Rattle.std.proofs.Math.Path.{sym, ap, ap₂}
 use Rattle.std.proofs.Common.{◌∙◌, le-leb}
 use mathlib.Core.List.{List, [], ◌∷◌, ◌++◌}
 use Rattle.std.proofs.Math.ListN.{drop}
-use Rattle.readings.specs.declared.Measured.{Measured}
-use Rattle.readings.specs.declared.Measured.TheVariants as measured
 use Rattle.records.specs.Eight.Codes.{code_length}
 use Rattle.records.proofs.Eight.Hours.{Sound}
 use Rattle.records.proofs.Laws.Vectors.{AllUnits, first-missing, first-beyond}
@@ -13,13 +13,11 @@ use Rattle.records.specs.Eight.Vectors.{Hour, check_readings, units_taken, block
 use Rattle.refusals.specs.declared.settings.Settings.{Settings}
 use Rattle.refusals.specs.declared.Refusal.{Refusal}
 use Rattle.refusals.specs.declared.Refusal.TheVariants.{Table, Size, Missing, OutOfRange}
-use Rattle.refusals.specs.declared.Verdict.{Verdict}
-use Rattle.refusals.specs.declared.Verdict.TheVariants.{Accepted, Refused}
 use Rattle.refusals.specs.Answers.{written}
 use Rattle.refusals.specs.Laws.Verdicts.{first-accepted, first-last, first-append}
 use Rattle.refusals.specs.Settings.{check_settings}
 use Rattle.refusals.specs.Steps.{check_steps}
-use Rattle.refusals.specs.Verdicts.{unless, first_refusal}
+use Rattle.refusals.specs.Verdicts.{unless, first_refusal, Verdict}
 use Rattle.scores.specs.Eight.Asked.{HourTaken, hour-taken, taken-block, exact-blocks}
 use Rattle.scores.specs.Eight.Scores.{query_total}
 use Rattle.tables.specs.Filling.{lent_asked}
@@ -74,15 +72,15 @@ module _ (c : Settings) (steps : List ℤ) (h : Hour) where
 
   module _ (b : List ℕ) (out : List ℤ) where
     -- as found, where the search is refused
-    pub table-refused : (r : Refusal) → check_best_by c steps h b (length out) ≡ Refused r → best_hour_table c steps h b out ≡ out
+    pub table-refused : (r : Refusal) → check_best_by c steps h b (length out) ≡ Err r → best_hour_table c steps h b out ≡ out
     unfolding best_hour_table
     table-refused r e = ap (λ (v : Verdict). written v (query_table q X) out) e
 
-    module _ (sound : Sound h) (ok : check_best_by c steps h b (length out) ≡ Accepted) where
+    module _ (sound : Sound h) (ok : check_best_by c steps h b (length out) ≡ Ok tt) where
       abbrev size : ℕ
       size = code_length m K
 
-      last : (before_store c steps h (length out) ≡ Accepted) × (check_store (length steps) q m K b ≡ Accepted)
+      last : (before_store c steps h (length out) ≡ Ok tt) × (check_store (length steps) q m K b ≡ Ok tt)
       last = let before : Verdict = before_store c steps h (length out) in let store : Verdict = check_store (length steps) q m K b in
           let t = first-accepted before (store ∷ []) (sym (search-by-is c steps h (length out) b before refl) ∙ ok) in (t.0, (first-accepted store [] t.1).0)
 
@@ -109,14 +107,14 @@ module _ (c : Settings) (steps : List ℤ) (h : Hour) where
 
   -- ---- what is refused
 
-  module _ (b : List ℕ) (room : ℕ) (asked : table_asked c steps h room ≡ Accepted) (i : ℕ) (d : Measured) (within : i < length h.readings) (before : AllUnits i h.readings d) where
-    readings-refused : (r : Refusal) → readings ≡ Refused r → check_best_by c steps h b room ≡ Refused r
-    readings-refused r e = search-by-is c steps h room b (Refused r) (ap₂ (λ (v w : Verdict). first_refusal (v ∷ w ∷ [])) asked e)
+  module _ (b : List ℕ) (room : ℕ) (asked : table_asked c steps h room ≡ Ok tt) (i : ℕ) (d : Measured) (within : i < length h.readings) (before : AllUnits i h.readings d) where
+    readings-refused : (r : Refusal) → readings ≡ Err r → check_best_by c steps h b room ≡ Err r
+    readings-refused r e = search-by-is c steps h room b (Err r) (ap₂ (λ (v w : Verdict). first_refusal (v ∷ w ∷ [])) asked e)
 
     -- the first reading that is missing is named by 4, whatever the store is
-    pub table-null-refused : get_or h.readings i d ≡ measured.Missing → check_best_by c steps h b room ≡ Refused (Missing i)
+    pub table-null-refused : get_or h.readings i d ≡ Err fault.Missing → check_best_by c steps h b room ≡ Err (Missing i)
     table-null-refused e = readings-refused (Missing i) (first-missing i h.readings d within before e)
 
     -- and the first that is out of range by 5
-    pub table-beyond-refused : get_or h.readings i d ≡ measured.OutOfRange → check_best_by c steps h b room ≡ Refused (OutOfRange i)
+    pub table-beyond-refused : get_or h.readings i d ≡ Err fault.OutOfRange → check_best_by c steps h b room ≡ Err (OutOfRange i)
     table-beyond-refused e = readings-refused (OutOfRange i) (first-beyond i h.readings d within before e)

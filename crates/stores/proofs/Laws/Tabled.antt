@@ -1,5 +1,5 @@
 -- The order of a search by a lent table, what it says that it was accepted, and what its core answers.
-use Rattle.std.specs.Prelude.{◌≡◌, refl, ℕ, ◌*◌, ◌/◌, ◌≤◌, ℤ, nat_abs, length}
+use Rattle.std.specs.Prelude.{◌≡◌, refl, ℕ, ◌*◌, ◌/◌, ◌≤◌, ℤ, nat_abs, length, Ok, Err}
 use Rattle.std.proofs.Common.{sym, ◌∙◌, subst}
 use Rattle.std.proofs.Math.Path.{ap, ap₂}
 use mathlib.Core.List.{List, [], ◌∷◌}
@@ -8,13 +8,11 @@ use Rattle.records.proofs.Eight.Hours.{Sound}
 use Rattle.records.specs.Eight.Vectors.{Hour, check_readings, units_taken, blocks_of, UnitsTaken}
 use Rattle.refusals.specs.declared.settings.Settings.{Settings}
 use Rattle.refusals.specs.declared.Refusal.{Refusal}
-use Rattle.refusals.specs.declared.Verdict.{Verdict}
-use Rattle.refusals.specs.declared.Verdict.TheVariants.{Accepted, Refused}
 use Rattle.refusals.specs.Answers.{written}
 use Rattle.refusals.specs.Laws.Verdicts.{first-accepted, first-all, first-last, first-append}
 use Rattle.refusals.specs.Settings.{check_settings}
 use Rattle.refusals.specs.Steps.{check_steps}
-use Rattle.refusals.specs.Verdicts.{first_refusal}
+use Rattle.refusals.specs.Verdicts.{first_refusal, Verdict}
 use Rattle.scores.specs.Hours.{check_hour}
 use Rattle.scores.specs.Eight.Asked.{hour-taken}
 use Rattle.tables.specs.Filling.{check_table, check_entries, lent_asked}
@@ -35,11 +33,11 @@ module _ (c : Settings) (steps : List ℤ) where
   first = check_settings c ∷ check_steps 0 steps ∷ check_table query_most c ∷ []
 
   pub record FirstTaken : Type 0 where
-    pub settings : check_settings c ≡ Accepted
-    pub listed : check_steps 0 steps ≡ Accepted
+    pub settings : check_settings c ≡ Ok tt
+    pub listed : check_steps 0 steps ≡ Ok tt
     pub most : q ≤ query_most
 
-  pub first_taken : first_refusal first ≡ Accepted → FirstTaken
+  pub first_taken : first_refusal first ≡ Ok tt → FirstTaken
   first_taken e = let table : Verdict = check_table query_most c in
       let s = first-accepted (check_settings c) (check_steps 0 steps ∷ table ∷ []) e in let l = first-accepted (check_steps 0 steps) (table ∷ []) s.1 in
       record { settings = s.0; listed = l.0; most = table_taken query_most c (first-accepted table [] l.1).0 }
@@ -58,17 +56,17 @@ module _ (c : Settings) (steps : List ℤ) where
 
     pub record AskedTaken : Type 0 where
       pub first : FirstTaken
-      pub framed : h.frame ≡ Accepted
+      pub framed : h.frame ≡ Ok tt
       pub fits : part_size q * blocks_of h ≤ room
 
-    pub asked-taken : table_asked c steps h room ≡ Accepted → AskedTaken
+    pub asked-taken : table_asked c steps h room ≡ Ok tt → AskedTaken
     asked-taken e =
         let entries : Verdict = check_entries (part_size q * blocks_of h) room in let lent : Verdict = lent_asked c h room in
         let s = first-accepted (first_refusal first) (lent ∷ []) (sym (asked_is (first_refusal first) refl) ∙ e) in let f = first-accepted h.frame (entries ∷ []) (first-accepted lent [] s.1).0 in
         record { first = first_taken s.0; framed = f.0; fits = entries-taken (part_size q * blocks_of h) room (first-accepted entries [] f.1).0 }
 
     -- where the readings are accepted too, so is the hour
-    pub hour-accepted : AskedTaken → readings ≡ Accepted → check_hour c steps h ≡ Accepted
+    pub hour-accepted : AskedTaken → readings ≡ Ok tt → check_hour c steps h ≡ Ok tt
     unfolding check_hour
     hour-accepted t e = first-all (check_settings c ∷ check_steps 0 steps ∷ h.frame ∷ readings ∷ []) (t.first.settings, (t.first.listed, (t.framed, (e, tt))))
 
@@ -76,7 +74,7 @@ module _ (c : Settings) (steps : List ℤ) where
     abbrev pub CoreTaken : List ℤ → Type 0
     CoreTaken X = CoderTaken c steps × UnitsTaken X × (q ≤ query_most) × (part_size q * (length X / 8) ≤ room)
 
-    pub core-taken : Sound h → AskedTaken → readings ≡ Accepted → (X : List ℤ) → units_taken h.readings ≡ X → length X ≡ length h.readings → CoreTaken X
+    pub core-taken : Sound h → AskedTaken → readings ≡ Ok tt → (X : List ℤ) → units_taken h.readings ≡ X → length X ≡ length h.readings → CoreTaken X
     core-taken sound t e X same long = let hour = hour-taken c steps h sound (hour-accepted t e) in
         (hour.taken, subst UnitsTaken same hour.units, t.first.most, subst (λ (n : ℕ). part_size q * (n / 8) ≤ room) (sym long) t.fits)
 
@@ -98,18 +96,18 @@ module _ (c : Settings) (steps : List ℤ) (h : Hour) (b : List ℕ) (out : List
   store K = check_store (length steps) (q c steps) (m c steps) K b
 
   -- where it is refused before the store is looked at
-  pub by-refused : (r : Refusal) → before_store c steps h room ≡ Refused r → (found (Refused r) (best_of []) ≡ best_hour_by c steps h b room) × (out ≡ best_hour_table c steps h b out)
+  pub by-refused : (r : Refusal) → before_store c steps h room ≡ Err r → (found (Err r) (best_of []) ≡ best_hour_by c steps h b room) × (out ≡ best_hour_table c steps h b out)
   unfolding best_hour_by best_hour_table
-  by-refused r e = let k = search-by-is c steps h room b (Refused r) e in (
+  by-refused r e = let k = search-by-is c steps h room b (Err r) e in (
     ap (λ (v : Verdict). found v (best_in (q c steps) (m c steps) steps (units_taken h.readings) (blocks_of h) b)) (sym k),
     ap (λ (v : Verdict). written v (query_table (q c steps) (units_taken h.readings)) out) (sym k),
   )
 
   -- and where it is not, with X the units of the query
-  pub by-is : before_store c steps h room ≡ Accepted → (X : List ℤ) → units_taken h.readings ≡ X → length X ≡ length h.readings
+  pub by-is : before_store c steps h room ≡ Ok tt → (X : List ℤ) → units_taken h.readings ≡ X → length X ≡ length h.readings
       → (found (store (length X / 8)) (best_in (q c steps) (m c steps) steps X (length X / 8) b) ≡ best_hour_by c steps h b room) × (written (store (length X / 8)) (query_table (q c steps) X) out ≡ best_hour_table c steps h b out)
   unfolding best_hour_by best_hour_table
-  by-is e X same long = let k : check_best_by c steps h b room ≡ store (blocks_of h) = search-by-is c steps h room b Accepted e ∙ first-last (store (blocks_of h)) in (
+  by-is e X same long = let k : check_best_by c steps h b room ≡ store (blocks_of h) = search-by-is c steps h room b (Ok tt) e ∙ first-last (store (blocks_of h)) in (
     ap (λ (n : ℕ). found (store (n / 8)) (best_in (q c steps) (m c steps) steps X (n / 8) b)) long
         ∙ ap₂ (λ (v : Verdict) (X : List ℤ). found v (best_in (q c steps) (m c steps) steps X (blocks_of h) b)) (sym k) (sym same),
     ap (λ (n : ℕ). written (store (n / 8)) (query_table (q c steps) X) out) long ∙ ap₂ (λ (v : Verdict) (X : List ℤ). written v (query_table (q c steps) X) out) (sym k) (sym same),

@@ -1,5 +1,5 @@
 -- What it says that a store was taken and not refused; that a good one is not; and which record is named.
-use Rattle.std.specs.Prelude.{◌≡◌, Bool, ltb, get_or, take, drop}
+use Rattle.std.specs.Prelude.{◌≡◌, Bool, ltb, get_or, take, drop, Ok, Err}
 use Rattle.std.proofs.Math.Path.{refl, ap, ap₂, subst}
 use Rattle.std.proofs.Common.{sym, ◌∙◌, le_refl, length-take, length-drop, drop-drop}
 use Rattle.std.proofs.Math.Bool.{true, false}
@@ -19,10 +19,8 @@ use Rattle.records.specs.Laws.Frames.{record-framed, whole-blocks, frame-good}
 use Rattle.records.specs.Laws.Parts.{cut-long, cut_at}
 use Rattle.refusals.specs.declared.Refusal.{Refusal}
 use Rattle.refusals.specs.declared.Refusal.TheVariants.{Record, EmptyStore}
-use Rattle.refusals.specs.declared.Verdict.{Verdict}
-use Rattle.refusals.specs.declared.Verdict.TheVariants.{Accepted, Refused}
 use Rattle.refusals.specs.Laws.Verdicts.{unless-accepted, first-accepted, first-last}
-use Rattle.refusals.specs.Verdicts.{unless, first_refusal}
+use Rattle.refusals.specs.Verdicts.{unless, first_refusal, Verdict}
 use Rattle.scores.specs.Eight.Asked.{code-taken, taken-block, exact-blocks}
 use Rattle.scores.specs.Eight.Scores.{check_code}
 use Rattle.stores.specs.Laws.Pieces.{count, pieces-hold, pieces_whole}
@@ -38,7 +36,7 @@ module _ (steps q m K : ℕ) where
   -- ---- one record
 
   -- one that was taken is accepted in any place
-  pub code-accepted : (place first : ℕ) (b : List ℕ) → RecordTaken steps q m K K b → check_code steps q m K K place first b ≡ Accepted
+  pub code-accepted : (place first : ℕ) (b : List ℕ) → RecordTaken steps q m K K b → check_code steps q m K K place first b ≡ Ok tt
   unfolding Rattle.scores.specs.Scores.check_code
   code-accepted place first b h =
       let w = h.frame.whole in
@@ -52,18 +50,18 @@ module _ (steps q m K : ℕ) where
   framed-long b h = let e : word_at b 0 ≡ block_size m * K = h.whole.times ∙ ap (λ (k : ℕ). block_size m * k) (exact-blocks m K b h) in omega (arith, h.complete)
 
   -- one that is shorter is refused by its place, whatever its bytes are
-  short-refused : (place first : ℕ) (b : List ℕ) → length b < n → check_code steps q m K K place first b ≡ Refused (Record place)
+  short-refused : (place first : ℕ) (b : List ℕ) → length b < n → check_code steps q m K K place first b ≡ Err (Record place)
   unfolding Rattle.scores.specs.Scores.check_code
   short-refused place first b short = go (good_record 1 (block_size m) K K b) (record-framed 1 (block_size m) K K b)
     where
-      go : (f : Bool) → (f ≡ true → Framed 1 (block_size m) K K b) → first_refusal (unless f (Record place) ∷ check_blocks steps q (block_size m) first (code_blocks m b) ∷ []) ≡ Refused (Record place)
+      go : (f : Bool) → (f ≡ true → Framed 1 (block_size m) K K b) → first_refusal (unless f (Record place) ∷ check_blocks steps q (block_size m) first (code_blocks m b) ∷ []) ≡ Err (Record place)
       go true h = absurd (omega (arith, framed-long b (h refl)))
       go false h = refl
 
   -- ---- records in turn
 
   -- each of k pieces
-  each-record : (k o : ℕ) (f : List ℕ) → check_records steps q m K o (cut n k f) ≡ Accepted → (j : ℕ) → j < k → RecordTaken steps q m K K (record_at n f j)
+  each-record : (k o : ℕ) (f : List ℕ) → check_records steps q m K o (cut n k f) ≡ Ok tt → (j : ℕ) → j < k → RecordTaken steps q m K K (record_at n f j)
   each-record zero o f e = λ j l. absurd (omega arith)
   each-record (suc k) o f e =
       let rest : Verdict = check_records steps q m K (o + n) (cut n k (drop n f)) in let t = first-accepted (check_code steps q m K K o (o + 4) (take n f)) (rest ∷ []) e in
@@ -75,14 +73,14 @@ module _ (steps q m K : ℕ) where
           subst (λ (a : ℕ). RecordTaken steps q m K K (take n (drop a f))) s (subst (λ (g : List ℕ). RecordTaken steps q m K K (take n g)) (drop-drop (n * j) n f) (later j (omega arith)))
 
   -- where each is good none is refused
-  records-accepted : (o : ℕ) (l : List (List ℕ)) → ((j : ℕ) → j < length l → RecordTaken steps q m K K (get_or l j [])) → check_records steps q m K o l ≡ Accepted
+  records-accepted : (o : ℕ) (l : List (List ℕ)) → ((j : ℕ) → j < length l → RecordTaken steps q m K K (get_or l j [])) → check_records steps q m K o l ≡ Ok tt
   records-accepted o [] h = refl
   records-accepted o (b ∷ l) h =
       ap₂ (λ (v w : Verdict). first_refusal (v ∷ w ∷ [])) (code-accepted o (o + 4) b (h 0 (omega arith))) (records-accepted (o + n) l (λ j k. h (suc j) (omega arith)))
 
   -- the first that is refused is the answer, whatever follows it
   records-refused : (r : Refusal) (i o : ℕ) (l : List (List ℕ)) → i < length l → ((j : ℕ) → j < i → RecordTaken steps q m K K (get_or l j []))
-      → check_code steps q m K K (o + n * i) (o + n * i + 4) (get_or l i []) ≡ Refused r → check_records steps q m K o l ≡ Refused r
+      → check_code steps q m K K (o + n * i) (o + n * i + 4) (get_or l i []) ≡ Err r → check_records steps q m K o l ≡ Err r
   records-refused r i o [] h before e = absurd (omega arith)
   records-refused r zero o (b ∷ l) h before e = let z : o ≡ o + n * 0 = omega arith in
       ap (λ (v : Verdict). first_refusal (v ∷ check_records steps q m K (o + n) l ∷ [])) (ap (λ (p : ℕ). check_code steps q m K K p (p + 4) b) z ∙ e)
@@ -112,7 +110,7 @@ module _ (steps q m K : ℕ) where
         empty : 0 < length b → length b ≤ n * many → many ≡ 0 → ⊥
         empty h k z = let e : n * many ≡ 0 = ap (λ (i : ℕ). n * i) z ∙ omega arith in omega arith
 
-    pub store-taken : check_store steps q m K b ≡ Accepted → StoreTaken steps q m K b
+    pub store-taken : check_store steps q m K b ≡ Ok tt → StoreTaken steps q m K b
     unfolding check_store
     store-taken e =
         let rest : Verdict = check_records steps q m K 0 (pieces n b) in let t = first-accepted (unless (ltb 0 (length b)) EmptyStore) (rest ∷ []) e in
@@ -132,7 +130,7 @@ module _ (steps q m K : ℕ) where
     ]
 
     -- a good store gives neither 11 nor 10 nor 7
-    pub store-accepted : StoreTaken steps q m K b → check_store steps q m K b ≡ Accepted
+    pub store-accepted : StoreTaken steps q m K b → check_store steps q m K b ≡ Ok tt
     unfolding check_store
     store-accepted h = let k : ℕ = length b / n in
         ap₂ (λ (v w : Verdict). first_refusal (v ∷ w ∷ [])) (ap (λ (t : Bool). unless t EmptyStore) (lt-ltb 0 (length b) h.some))
@@ -141,7 +139,7 @@ module _ (steps q m K : ℕ) where
 
     -- a store is refused as its first bad record is, its places counted from the store's start
     pub store-refused : (i : ℕ) (r : Refusal) → n * i < length b → ((j : ℕ) → j < i → RecordTaken steps q m K K (record_at n b j))
-        → check_code steps q m K K (n * i) (n * i + 4) (record_at n b i) ≡ Refused r → check_store steps q m K b ≡ Refused r
+        → check_code steps q m K K (n * i) (n * i + 4) (record_at n b i) ≡ Err r → check_store steps q m K b ≡ Err r
     unfolding check_store
     store-refused i r h before e =
         let within : i < many = below (dec_lt i many) in let z : 0 + n * i ≡ n * i = omega arith in
@@ -154,10 +152,10 @@ module _ (steps q m K : ℕ) where
         below (no k) = let over : n * many ≤ n * i = mul-le-mul (le_refl n) (omega arith) in absurd (omega (arith, pieces-hold n positive (length b)))
 
     -- so what is left after good records and is no whole one is refused by 10, with its offset
-    pub tail-refused : (i : ℕ) → n * i < length b → length b < n * i + n → ((j : ℕ) → j < i → RecordTaken steps q m K K (record_at n b j)) → check_store steps q m K b ≡ Refused (Record (n * i))
+    pub tail-refused : (i : ℕ) → n * i < length b → length b < n * i + n → ((j : ℕ) → j < i → RecordTaken steps q m K K (record_at n b j)) → check_store steps q m K b ≡ Err (Record (n * i))
     tail-refused i h short before = store-refused i (Record (n * i)) h before (short-refused (n * i) (n * i + 4) (record_at n b i) (simp (length-take, length-drop) (omega arith)))
 
   -- and one of no bytes by 11
-  pub empty-store : check_store steps q m K [] ≡ Refused EmptyStore
+  pub empty-store : check_store steps q m K [] ≡ Err EmptyStore
   unfolding check_store
   empty-store = refl

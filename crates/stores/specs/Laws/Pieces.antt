@@ -1,11 +1,10 @@
 -- Pieces of a store: the first and the rest, one after the other.
-use Rattle.std.specs.Prelude.{◌≡◌, List, [], ◌∷◌, ℕ, suc, ◌+◌, ◌*◌, ◌-◌, ◌/◌, ◌<◌, ◌≤◌, length, take, drop}
+use Rattle.std.specs.Prelude.{◌≡◌, List, [], ◌∷◌, ℕ, suc, ◌+◌, ◌*◌, ◌-◌, ◌/◌, ◌<◌, ◌≤◌, length, take, drop, Ok}
 use Rattle.std.proofs.Common.{sym, ◌∙◌, ap, arith, length-drop, drop-drop}
 use Rattle.std.proofs.Math.Decide.{dec_le}
 use Rattle.std.proofs.Math.Nat.{div-eq_of_lt, add-div_right, mul-add-div, lt-mul-div-succ}
 use Rattle.layers.specs.Digits.{cut}
 use Rattle.records.specs.Eight.Codes.{code_length}
-use Rattle.refusals.specs.declared.Verdict.TheVariants.{Accepted}
 use Rattle.refusals.specs.Verdicts.{first_refusal}
 use Rattle.scores.specs.Eight.Scores.{check_code}
 use Rattle.stores.specs.Stores.{pieces, check_records}
@@ -57,5 +56,5 @@ module _ (steps q m K : ℕ) (b : List ℕ) where
       ap (check_records steps q m K at) (pieces-next n positive (drop at b) (simp length-drop (omega arith)))
       ∙ ap (λ (f : List ℕ). first_refusal (check_code steps q m K K at (at + 4) (take n (drop at b)) ∷ check_records steps q m K (at + n) (pieces n f) ∷ [])) (drop-drop n at b)
 
-  pub records-done : (at : ℕ) → length b ≤ at → check_records steps q m K at (pieces n (drop at b)) ≡ Accepted
+  pub records-done : (at : ℕ) → length b ≤ at → check_records steps q m K at (pieces n (drop at b)) ≡ Ok tt
   records-done at h = ap (check_records steps q m K at) (pieces_none n positive (drop at b) (simp length-drop (omega arith)))

@@ -1,5 +1,5 @@
 -- The order of a search, and what its core answers.
-use Rattle.std.specs.Prelude.{◌≡◌, refl, ℕ, ◌/◌, ℤ, nat_abs, length}
+use Rattle.std.specs.Prelude.{◌≡◌, refl, ℕ, ◌/◌, ℤ, nat_abs, length, Ok, Err}
 use Rattle.std.proofs.Common.{sym, ◌∙◌}
 use Rattle.std.proofs.Math.Path.{ap, ap₂}
 use mathlib.Core.List.{List, [], ◌∷◌}
@@ -7,12 +7,10 @@ use Rattle.records.proofs.Eight.Hours.{Sound}
 use Rattle.records.specs.Eight.Vectors.{Hour, check_readings, units_taken, blocks_of}
 use Rattle.refusals.specs.declared.settings.Settings.{Settings}
 use Rattle.refusals.specs.declared.Refusal.{Refusal}
-use Rattle.refusals.specs.declared.Verdict.{Verdict}
-use Rattle.refusals.specs.declared.Verdict.TheVariants.{Accepted, Refused}
 use Rattle.refusals.specs.Laws.Verdicts.{first-accepted, first-last, first-append}
 use Rattle.refusals.specs.Settings.{check_settings}
 use Rattle.refusals.specs.Steps.{check_steps}
-use Rattle.refusals.specs.Verdicts.{first_refusal}
+use Rattle.refusals.specs.Verdicts.{first_refusal, Verdict}
 use Rattle.scores.specs.Hours.{check_hour}
 use Rattle.scores.specs.Eight.Asked.{HourTaken, hour-taken}
 use Rattle.stores.specs.Laws.Asked.{store-taken}
@@ -36,19 +34,19 @@ module _ (c : Settings) (steps : List ℤ) (h : Hour) (b : List ℕ) where
       first-append (check_settings c ∷ check_steps 0 steps ∷ h.frame ∷ check_readings 0 h.readings ∷ []) (store (blocks_of h) ∷ [])
       ∙ ap (λ (v : Verdict). first_refusal (v ∷ store (blocks_of h) ∷ [])) e
 
-  pub search-refused : (r : Refusal) → check_hour c steps h ≡ Refused r → check_best c steps h b ≡ Refused r
-  search-refused r e = opened (Refused r) e
+  pub search-refused : (r : Refusal) → check_hour c steps h ≡ Err r → check_best c steps h b ≡ Err r
+  search-refused r e = opened (Err r) e
 
-  pub search-last : check_hour c steps h ≡ Accepted → check_best c steps h b ≡ store (blocks_of h)
-  search-last e = opened Accepted e ∙ first-last (store (blocks_of h))
+  pub search-last : check_hour c steps h ≡ Ok tt → check_best c steps h b ≡ store (blocks_of h)
+  search-last e = opened (Ok tt) e ∙ first-last (store (blocks_of h))
 
   -- the answer where the hour is refused
-  pub best_hour-refused : (r : Refusal) → check_hour c steps h ≡ Refused r → found (Refused r) (best_of []) ≡ best_hour c steps h b
+  pub best_hour-refused : (r : Refusal) → check_hour c steps h ≡ Err r → found (Err r) (best_of []) ≡ best_hour c steps h b
   unfolding best_hour
   best_hour-refused r e = ap (λ (v : Verdict). found v (best_in q m steps (units_taken h.readings) (blocks_of h) b)) (sym (search-refused r e))
 
   -- and where it is accepted, with X its units
-  pub best_hour-is : check_hour c steps h ≡ Accepted → (X : List ℤ) → units_taken h.readings ≡ X → length X ≡ length h.readings
+  pub best_hour-is : check_hour c steps h ≡ Ok tt → (X : List ℤ) → units_taken h.readings ≡ X → length X ≡ length h.readings
       → found (store (length X / 8)) (best_in q m steps X (length X / 8) b) ≡ best_hour c steps h b
   unfolding best_hour
   best_hour-is e X same long =
@@ -57,11 +55,11 @@ module _ (c : Settings) (steps : List ℤ) (h : Hour) (b : List ℕ) where
 
 -- the hour and the store of an accepted search
 pub record SearchTaken (c : Settings) (steps : List ℤ) (h : Hour) (b : List ℕ) : Type 0 where
-  pub accepted : check_hour c steps h ≡ Accepted
+  pub accepted : check_hour c steps h ≡ Ok tt
   pub hour : HourTaken c steps h
   pub store : StoreTaken (length steps) (nat_abs c.q) (nat_abs c.m) (blocks_of h) b
 
-pub search-taken : (c : Settings) (steps : List ℤ) (h : Hour) (b : List ℕ) → Sound h → check_best c steps h b ≡ Accepted → SearchTaken c steps h b
+pub search-taken : (c : Settings) (steps : List ℤ) (h : Hour) (b : List ℕ) → Sound h → check_best c steps h b ≡ Ok tt → SearchTaken c steps h b
 search-taken c steps h b sound e =
     let last : Verdict = store c steps h b (blocks_of h) in let t = first-accepted (check_hour c steps h) (last ∷ []) (sym (opened c steps h b (check_hour c steps h) refl) ∙ e) in
     record {

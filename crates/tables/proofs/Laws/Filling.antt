@@ -1,5 +1,5 @@
 -- The order of filling, and what it says that a filling was accepted.
-use Rattle.std.specs.Prelude.{◌≡◌, ℕ, ◌*◌, ◌/◌, ◌≤◌, ℤ, pos, nat_abs, length}
+use Rattle.std.specs.Prelude.{◌≡◌, ℕ, ◌*◌, ◌/◌, ◌≤◌, ℤ, pos, nat_abs, length, Ok, Err}
 use Rattle.std.proofs.Common.{sym, ◌∙◌, leb-true}
 use Rattle.std.proofs.Math.Path.{ap, ap₂}
 use mathlib.Core.List.{List, [], ◌∷◌}
@@ -11,24 +11,22 @@ use Rattle.records.specs.Eight.Vectors.{Hour, fvecs_hour, check_readings, units_
 use Rattle.refusals.specs.declared.settings.Settings.{Settings}
 use Rattle.refusals.specs.declared.Refusal.{Refusal}
 use Rattle.refusals.specs.declared.Refusal.TheVariants.{Table, Size, Record}
-use Rattle.refusals.specs.declared.Verdict.{Verdict}
-use Rattle.refusals.specs.declared.Verdict.TheVariants.{Accepted, Refused}
 use Rattle.refusals.specs.Answers.{valued, written}
 use Rattle.refusals.specs.Laws.Verdicts.{unless-accepted, first-accepted, first-append, first_group}
 use Rattle.refusals.specs.Limits.{blocks_most}
 use Rattle.refusals.specs.Settings.{check_settings, Allowed}
-use Rattle.refusals.specs.Verdicts.{first_refusal}
+use Rattle.refusals.specs.Verdicts.{first_refusal, Verdict}
 use Rattle.tables.specs.Filling.{check_table, check_entries, check_pair_table, lent_asked, query_table_asked, check_query_table, query_filled, query_table_room}
 use Rattle.tables.specs.Tables.{pair_most, query_most, pair_size, part_size, query_table}
 
 -- ---- one check
 
 -- q is one that the table is for
-pub table_taken : (most : ℕ) (c : Settings) → check_table most c ≡ Accepted → nat_abs c.q ≤ most
+pub table_taken : (most : ℕ) (c : Settings) → check_table most c ≡ Ok tt → nat_abs c.q ≤ most
 table_taken most c e = leb-true (nat_abs c.q) most (unless-accepted _ Table e)
 
 -- the table is long enough
-pub entries-taken : (n room : ℕ) → check_entries n room ≡ Accepted → n ≤ room
+pub entries-taken : (n room : ℕ) → check_entries n room ≡ Ok tt → n ≤ room
 entries-taken n room e = leb-true n room (unless-accepted _ (Size 2) e)
 
 -- ---- the pair table
@@ -46,7 +44,7 @@ module _ (c : Settings) (room : ℕ) where
     pub fits : pair_size ≤ room
 
   -- an accepted filling has them
-  pub pair-table-taken : check_pair_table c room ≡ Accepted → PairTableTaken
+  pub pair-table-taken : check_pair_table c room ≡ Ok tt → PairTableTaken
   unfolding check_pair_table
   pair-table-taken e =
       let table : Verdict = check_table pair_most c in let long : Verdict = check_entries pair_size room in
@@ -60,7 +58,7 @@ module _ (c : Settings) where
   q = nat_abs c.q
 
   -- settings and q, checked as one
-  pub q-taken : first_refusal (check_settings c ∷ check_table query_most c ∷ []) ≡ Accepted → Allowed c.q c.m × (q ≤ query_most)
+  pub q-taken : first_refusal (check_settings c ∷ check_table query_most c ∷ []) ≡ Ok tt → Allowed c.q c.m × (q ≤ query_most)
   q-taken e = let s = first-accepted (check_settings c) (check_table query_most c ∷ []) e in (checked-allowed c s.0, table_taken query_most c (first-accepted (check_table query_most c) [] s.1).0)
 
   module _ (h : Hour) (room : ℕ) where
@@ -84,14 +82,14 @@ module _ (c : Settings) where
     pub record QueryTableTaken : Type 0 where
       pub allowed : Allowed c.q c.m
       pub most : q ≤ query_most
-      pub framed : h.frame ≡ Accepted
+      pub framed : h.frame ≡ Ok tt
       pub units : UnitsTaken (units_taken h.readings)
       pub whole : length (units_taken h.readings) ≡ length h.readings
-      pub taken : readings ≡ Accepted
+      pub taken : readings ≡ Ok tt
       pub fits : part_size q * blocks_of h ≤ room
 
     -- an accepted filling has them
-    pub query-table-taken : Sound h → check_query_table c h room ≡ Accepted → QueryTableTaken
+    pub query-table-taken : Sound h → check_query_table c h room ≡ Ok tt → QueryTableTaken
     unfolding check_query_table query_table_asked
     query-table-taken sound e =
         let a = first-accepted (query_table_asked c h room) (readings ∷ []) e in let r = first-accepted readings [] a.1 in let whole = taken-all h.readings r.0 in
@@ -108,7 +106,7 @@ module _ (c : Settings) where
         }
 
 -- a record whose frame was accepted
-pub asked-framed : (c : Settings) (b : List ℕ) (room : ℕ) → query_table_asked c (fvecs_hour b) room ≡ Accepted → Framed 4 8 1 blocks_most b
+pub asked-framed : (c : Settings) (b : List ℕ) (room : ℕ) → query_table_asked c (fvecs_hour b) room ≡ Ok tt → Framed 4 8 1 blocks_most b
 unfolding query_table_asked
 asked-framed c b room e =
     let h : Hour = fvecs_hour b in let rest : Verdict = check_entries (part_size (nat_abs c.q) * blocks_of h) room in
@@ -121,7 +119,7 @@ module _ (c : Settings) (h : Hour) (out : List ℤ) where
   K = blocks_of h
 
   -- where it is refused
-  pub filled-refused : (r : Refusal) → check_query_table c h (length out) ≡ Refused r → (valued (Refused r) (pos 0) ≡ query_filled c h (length out)) × (out ≡ query_table_room c h out)
+  pub filled-refused : (r : Refusal) → check_query_table c h (length out) ≡ Err r → (valued (Err r) (pos 0) ≡ query_filled c h (length out)) × (out ≡ query_table_room c h out)
   unfolding query_filled query_table_room
   filled-refused r e = (
     ap (λ (v : Verdict). valued v (pos (part_size (nat_abs c.q) * K))) (sym e),
@@ -129,8 +127,8 @@ module _ (c : Settings) (h : Hour) (out : List ℤ) where
   )
 
   -- where it is accepted, with X the units of its readings
-  pub filled-accepted : (X : List ℤ) → units_taken h.readings ≡ X → length X ≡ length h.readings → check_query_table c h (length out) ≡ Accepted
-      → (valued Accepted (pos (part_size (nat_abs c.q) * (length X / 8))) ≡ query_filled c h (length out)) × (written Accepted (query_table (nat_abs c.q) X) out ≡ query_table_room c h out)
+  pub filled-accepted : (X : List ℤ) → units_taken h.readings ≡ X → length X ≡ length h.readings → check_query_table c h (length out) ≡ Ok tt
+      → (valued (Ok tt) (pos (part_size (nat_abs c.q) * (length X / 8))) ≡ query_filled c h (length out)) × (written (Ok tt) (query_table (nat_abs c.q) X) out ≡ query_table_room c h out)
   unfolding query_filled query_table_room
   filled-accepted X same long e = (
     ap₂ (λ (v : Verdict) (n : ℕ). valued v (pos (part_size (nat_abs c.q) * (n / 8)))) (sym e) long,

@@ -1,13 +1,14 @@
 -- What filling says: an accepted table holds 01's entries, and what follows it stays; a null is refused by its place.
-use Rattle.std.specs.Prelude.{◌≡◌, true, List, ◌++◌, ℕ, ◌+◌, ◌*◌, ◌/◌, ◌<◌, ℤ, pos, nat_abs, length, get_or, take}
+use Rattle.readings.specs.declared.Fault.TheVariants as fault
+use Rattle.readings.specs.Taking.{Measured}
+use Rattle.refusals.specs.Verdicts.{Verdict}
+use Rattle.std.specs.Prelude.{◌≡◌, true, List, ◌++◌, ℕ, ◌+◌, ◌*◌, ◌/◌, ◌<◌, ℤ, pos, nat_abs, length, get_or, take, Ok, Err}
 use Rattle.std.proofs.Common.{◌∙◌, arith, length-append, length-drop, drop_at}
 use Rattle.std.proofs.Math.Path.{ap}
 use Rattle.std.specs.Float.{binary32}
 use Rattle.std.specs.Float.Ieee.{nan_bits}
 use Rattle.std.proofs.Math.ListN.{drop}
 use Rattle.integers.specs.Vectors.{«at», dot}
-use Rattle.readings.specs.declared.Measured.{Measured}
-use Rattle.readings.specs.declared.Measured.TheVariants as measured
 use Rattle.readings.specs.Words.{word_at, measure_at}
 use Rattle.records.proofs.Eight.Hours.{Sound, fvecs-count, fvecs-reading, word-missing}
 use Rattle.records.proofs.Laws.Vectors.{AllUnits, first-missing, first-beyond}
@@ -15,8 +16,6 @@ use Rattle.records.specs.Eight.Vectors.{Hour, fvecs_hour, check_readings, units_
 use Rattle.refusals.specs.declared.settings.Settings.{Settings}
 use Rattle.refusals.specs.declared.Refusal.{Refusal}
 use Rattle.refusals.specs.declared.Refusal.TheVariants.{Missing, OutOfRange}
-use Rattle.refusals.specs.declared.Verdict.{Verdict}
-use Rattle.refusals.specs.declared.Verdict.TheVariants.{Accepted, Refused}
 use Rattle.refusals.specs.Answers.{valued, written}
 use Rattle.refusals.specs.Laws.Verdicts.{first-last}
 use Rattle.scores.specs.Scores.{inner}
@@ -27,9 +26,9 @@ use Rattle.tables.specs.Tables.{pair_size, part_size, layer_at, pair_table, quer
 
 -- ---- the pair table as it is filled
 
-module _ (c : Settings) (out : List ℤ) (ok : check_pair_table c (length out) ≡ Accepted) where
+module _ (c : Settings) (out : List ℤ) (ok : check_pair_table c (length out) ≡ Ok tt) where
   -- the answer is 65,536, and the table stands in front of what was found
-  pub pair-filled : (pair_filled c (length out) ≡ valued Accepted (pos pair_size)) × (pair_table_room c out ≡ pair_table ++ drop pair_size out)
+  pub pair-filled : (pair_filled c (length out) ≡ valued (Ok tt) (pos pair_size)) × (pair_table_room c out ≡ pair_table ++ drop pair_size out)
   unfolding pair_filled pair_table_room
   pair-filled = (
     ap (λ (v : Verdict). valued v (pos pair_size)) ok,
@@ -48,24 +47,24 @@ module _ (c : Settings) (out : List ℤ) (ok : check_pair_table c (length out) �
 
 module _ (c : Settings) (h : Hour) (out : List ℤ) where
   -- a refusal leaves it as found
-  pub query-refused : (r : Refusal) → check_query_table c h (length out) ≡ Refused r → query_table_room c h out ≡ out
+  pub query-refused : (r : Refusal) → check_query_table c h (length out) ≡ Err r → query_table_room c h out ≡ out
   unfolding query_table_room
   query-refused r e = ap (λ (v : Verdict). written v (query_table (nat_abs c.q) (units_taken h.readings)) out) e
 
   -- where all else is allowed, the verdict is that of the readings
-  module _ (asked : query_table_asked c h (length out) ≡ Accepted) (i : ℕ) (d : Measured) (within : i < length h.readings) (before : AllUnits i h.readings d) where
-    last : (r : Refusal) → check_readings 0 h.readings ≡ Refused r → check_query_table c h (length out) ≡ Refused r
-    last r e = query-table-is c h (length out) Accepted asked ∙ first-last (check_readings 0 h.readings) ∙ e
+  module _ (asked : query_table_asked c h (length out) ≡ Ok tt) (i : ℕ) (d : Measured) (within : i < length h.readings) (before : AllUnits i h.readings d) where
+    last : (r : Refusal) → check_readings 0 h.readings ≡ Err r → check_query_table c h (length out) ≡ Err r
+    last r e = query-table-is c h (length out) (Ok tt) asked ∙ first-last (check_readings 0 h.readings) ∙ e
 
     -- the first that is missing is named by 4
-    pub null-refused : get_or h.readings i d ≡ measured.Missing → check_query_table c h (length out) ≡ Refused (Missing i)
+    pub null-refused : get_or h.readings i d ≡ Err fault.Missing → check_query_table c h (length out) ≡ Err (Missing i)
     null-refused e = last (Missing i) (first-missing i h.readings d within before e)
 
     -- the first that is out of range by 5
-    pub beyond-refused : get_or h.readings i d ≡ measured.OutOfRange → check_query_table c h (length out) ≡ Refused (OutOfRange i)
+    pub beyond-refused : get_or h.readings i d ≡ Err fault.OutOfRange → check_query_table c h (length out) ≡ Err (OutOfRange i)
     beyond-refused e = last (OutOfRange i) (first-beyond i h.readings d within before e)
 
-  module _ (sound : Sound h) (ok : check_query_table c h (length out) ≡ Accepted) where
+  module _ (sound : Sound h) (ok : check_query_table c h (length out) ≡ Ok tt) where
     abbrev q : ℕ
     q = nat_abs c.q
 
@@ -86,7 +85,7 @@ module _ (c : Settings) (h : Hour) (out : List ℤ) where
     table-long = query_table-long q X ∙ ap (λ (n : ℕ). part_size q * n) count
 
     -- the answer is K·q^8, and the table stands in front of what was found
-    pub query-filled : (query_filled c h (length out) ≡ valued Accepted (pos (part_size q * K))) × (query_table_room c h out ≡ query_table q X ++ drop (part_size q * K) out)
+    pub query-filled : (query_filled c h (length out) ≡ valued (Ok tt) (pos (part_size q * K))) × (query_table_room c h out ≡ query_table q X ++ drop (part_size q * K) out)
     unfolding query_filled query_table_room
     query-filled = (
       ap (λ (v : Verdict). valued v (pos (part_size q * K))) ok,
@@ -106,7 +105,7 @@ module _ (c : Settings) (h : Hour) (out : List ℤ) where
     query-long = ap length query-filled.1 ∙ simp (length-append, length-drop) (omega (arith, table-long, fill-taken.fits))
 
 -- the first NaN of a query that is an fvecs record is named by 4
-pub nan-refused : (c : Settings) (r : List ℕ) (out : List ℤ) (i : ℕ) → query_table_asked c (fvecs_hour r) (length out) ≡ Accepted → i < word_at r 0
-    → ((j : ℕ) → j < i → (X : ℤ) × (measure_at r (4 + 4 * j) ≡ measured.Units X)) → nan_bits binary32 (word_at r (4 + 4 * i)) ≡ true → check_query_table c (fvecs_hour r) (length out) ≡ Refused (Missing i)
-nan-refused c r out i asked h before e = let d : Measured = measured.Missing in
+pub nan-refused : (c : Settings) (r : List ℕ) (out : List ℤ) (i : ℕ) → query_table_asked c (fvecs_hour r) (length out) ≡ Ok tt → i < word_at r 0
+    → ((j : ℕ) → j < i → (X : ℤ) × (measure_at r (4 + 4 * j) ≡ Ok X)) → nan_bits binary32 (word_at r (4 + 4 * i)) ≡ true → check_query_table c (fvecs_hour r) (length out) ≡ Err (Missing i)
+nan-refused c r out i asked h before e = let d : Measured = Err fault.Missing in
     null-refused c (fvecs_hour r) out asked i d (omega (arith, fvecs-count r)) (λ j k. ((before j k).0, fvecs-reading r j d (omega arith) ∙ (before j k).1)) (fvecs-reading r i d h ∙ word-missing r i e)

@@ -1,12 +1,7 @@
--- `read_numbers` walks the words: two bytes at least for each number, so that the room holds them all.
-use mathlib.Core.Path.{◌≡◌}
-use Prim.Native.Nat.{◌*◌, ◌-◌, ◌≤◌}
-use lib.ListN.{length}
-use Rattle.texts.specs.Laws.Words.{Reading}
+-- `read_numbers` walks the parts of the line: two bytes at least for each number, so that the room holds them all.
+use Rattle.std.proofs.Common.{◌≡◌, ◌≤◌, length}
+use Rattle.texts.specs.Laws.Walks.{Walk}
 use Rattle.texts.proofs.read_numbers.Given as goal
 
-abbrev pub invariant-loop-at : goal.invariant-loop-at
-invariant-loop-at l = (2 * l.n ≤ l.at) × (length l.out ≡ length l.initial.out) × Reading l.line l.initial.out l.at l.n l.out
-
-abbrev pub decreases-loop-at : goal.decreases-loop-at
-decreases-loop-at l = length l.line - l.at
+abbrev pub invariant-loop-word : goal.invariant-loop-word
+invariant-loop-word l = record { few : l.n ≤ length l.line; room : length l.out ≡ length l.initial.out; walk : Walk l.line l.initial.out (length l.yielded) l.n l.out }

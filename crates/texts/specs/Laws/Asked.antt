@@ -1,38 +1,35 @@
 -- What the answers of the reader say of its lines, and what three of them ask for.
-use Rattle.std.specs.Prelude.{◌≡◌, Bool, true, false, cond, List, ℕ, eqb, length}
+use Rattle.std.specs.Prelude.{◌≡◌, Bool, true, false, cond, List, ℕ, Some, None, eqb, length}
 use Rattle.std.proofs.Common.{sym, ◌∙◌, arith, eq-eqb, ne_eqb}
 use Rattle.std.proofs.Math.Path.{ap, ap₂}
 use Rattle.std.proofs.Math.Bool.{◌&&◌, and-false}
 use Rattle.refusals.specs.declared.settings.Settings.{Settings}
-use Rattle.texts.specs.declared.Asked.TheVariants.{Block, Malformed}
-use Rattle.texts.specs.declared.Count.TheVariants as count
-use Rattle.texts.specs.declared.Pair.TheVariants as pair
 use Rattle.texts.specs.Answers.{counted, pair_told, asked_told, text_told}
 use Rattle.texts.specs.Laws.Choices.{chosen, passed}
 use Rattle.texts.specs.Text.{numeric, numbers, settings_in, line_of, is_asked, well_formed}
 
 module _ (l : List ℕ) where
   -- a line that holds numbers only, or another
-  pub counted-numbers : (n : ℕ) → counted l ≡ count.Numbers n → (numeric l ≡ true) × (length (numbers l) ≡ n)
+  pub counted-numbers : (n : ℕ) → counted l ≡ Some n → (numeric l ≡ true) × (length (numbers l) ≡ n)
   counted-numbers n e = let t = chosen _ _ _ (numeric l) e (λ k. let z : ◌≡◌ {A = ℕ} 0 1 = cc in omega arith) in (t.0, cc t.1)
 
-  pub counted-other : counted l ≡ count.Other → numeric l ≡ false
+  pub counted-other : counted l ≡ None → numeric l ≡ false
   counted-other e = passed _ _ _ (numeric l) e (λ k. let z : ◌≡◌ {A = ℕ} 0 1 = cc in omega arith)
 
   -- a first line
   abbrev two : Bool
   two = numeric l && eqb (length (numbers l)) 2
 
-  pub pair-not : two ≡ false → pair_told l ≡ pair.Other
-  pair-not e = ap (λ (b : Bool). cond b (pair.Two (settings_in l)) pair.Other) e
+  pub pair-not : two ≡ false → pair_told l ≡ None
+  pair-not e = ap (λ (b : Bool). cond b (Some (settings_in l)) None) e
 
-  pub pair_is : two ≡ true → pair_told l ≡ pair.Two (settings_in l)
-  pair_is e = ap (λ (b : Bool). cond b (pair.Two (settings_in l)) pair.Other) e
+  pub pair_is : two ≡ true → pair_told l ≡ Some (settings_in l)
+  pair_is e = ap (λ (b : Bool). cond b (Some (settings_in l)) None) e
 
-  pub pair-two : (c : Settings) → pair_told l ≡ pair.Two c → (two ≡ true) × (settings_in l ≡ c)
+  pub pair-two : (c : Settings) → pair_told l ≡ Some c → (two ≡ true) × (settings_in l ≡ c)
   pair-two c e = let t = chosen _ _ _ two e (λ k. let z : ◌≡◌ {A = ℕ} 0 1 = cc in omega arith) in (t.0, cc t.1)
 
-  pub pair-other : pair_told l ≡ pair.Other → two ≡ false
+  pub pair-other : pair_told l ≡ None → two ≡ false
   pair-other e = passed _ _ _ two e (λ k. let z : ◌≡◌ {A = ℕ} 0 1 = cc in omega arith)
 
 module _ (a b c : List ℕ) where
@@ -40,9 +37,9 @@ module _ (a b c : List ℕ) where
   test p q r s = p && (q && (r && s))
 
   -- what it says that three lines are not of the kind
-  pub asked-not : {A : Type 0} → is_asked a b c ≡ false → (Malformed ≡ asked_told a b c) × (is_asked a b c ≡ true → A)
+  pub asked-not : {A : Type 0} → is_asked a b c ≡ false → (None ≡ asked_told a b c) × (is_asked a b c ≡ true → A)
   asked-not e = (
-    sym (ap (λ (t : Bool). cond t (Block (settings_in a) (length (numbers b))) Malformed) e),
+    sym (ap (λ (t : Bool). cond t (Some (settings_in a, length (numbers b))) None) e),
     λ k. let f : true ≡ false = sym k ∙ e in let z : ◌≡◌ {A = ℕ} 0 1 = cc in absurd (omega arith),
   )
 
@@ -72,8 +69,10 @@ module _ (a b c : List ℕ) where
 
 -- what the answer to a text says of it
 module _ (t : List ℕ) where
-  pub told-block : (c : Settings) (n : ℕ) → text_told t ≡ Block c n → (well_formed t ≡ true) × (settings_in (line_of t 0) ≡ c) × (length (numbers (line_of t 1)) ≡ n)
-  told-block c n e = let b = chosen _ _ _ (well_formed t) e (λ k. let z : ◌≡◌ {A = ℕ} 0 1 = cc in omega arith) in (b.0, cc b.1, cc b.1)
+  pub told-block : (c : Settings) (n : ℕ) → text_told t ≡ Some (c, n) → (well_formed t ≡ true) × (settings_in (line_of t 0) ≡ c) × (length (numbers (line_of t 1)) ≡ n)
+  told-block c n e =
+      let b = chosen _ _ _ (well_formed t) e (λ k. let z : ◌≡◌ {A = ℕ} 0 1 = cc in omega arith) in
+      let p : ◌≡◌ {A = Settings × ℕ} (settings_in (line_of t 0), length (numbers (line_of t 1))) (c, n) = cc b.1 in (b.0, ap (λ p. p.0) p, ap (λ p. p.1) p)
 
-  pub told-malformed : text_told t ≡ Malformed → well_formed t ≡ false
+  pub told-malformed : text_told t ≡ None → well_formed t ≡ false
   told-malformed e = passed _ _ _ (well_formed t) e (λ k. let z : ◌≡◌ {A = ℕ} 0 1 = cc in omega arith)

@@ -1,7 +1,8 @@
 -- A text is walked piece by piece: the first piece, and then those after the mark that ends it.
-use Rattle.std.specs.Prelude.{◌≡◌, refl, Bool, true, false, cond, List, [], ◌∷◌, ℕ, zero, suc, ◌+◌, ◌-◌, ◌<◌, ◌≤◌, eqb, length, get_or, take, drop}
-use Rattle.std.proofs.Common.{◌∙◌, ap, ap₂, arith, length-drop, drop_of_length-le, drop-cons, drop-drop}
+use Rattle.std.specs.Prelude.{◌≡◌, refl, Bool, true, false, cond, List, [], ◌∷◌, ℕ, zero, suc, ◌+◌, ◌-◌, ◌<◌, ◌≤◌, Option, Some, None, eqb, not, position, unwrap_or, ◌==◌, length, get_or, take, drop}
+use Rattle.std.proofs.Common.{◌∙◌, ap, ap₂, arith, length-drop, drop_of_length-le, drop-cons, drop-drop, le-ltb, lt-ltb}
 use Rattle.std.proofs.Math.Decide.{dec_le}
+use Rattle.std.specs.List.{position_or_len}
 use Rattle.texts.specs.Answers.{piece_length}
 use Rattle.texts.specs.Text.{led, pieces, full}
 
@@ -14,6 +15,24 @@ module _ (mark : ℕ) where
       go : (e : Bool) → piece_length mark t ≤ length t → cond e 0 (suc (piece_length mark t)) ≤ suc (length t)
       go true h = omega arith
       go false h = omega arith
+
+  -- and it ends at the first mark, or with the text
+  piece-place : (t : List ℕ) → position_or_len (λ b. b == mark) t ≡ piece_length mark t
+  piece-place [] = refl
+  piece-place (b ∷ t) = go (eqb b mark) (piece-place t)
+    where
+      go : (e : Bool) → position_or_len (λ b. b == mark) t ≡ piece_length mark t → cond (not e) (1 + position_or_len (λ b. b == mark) t) 0 ≡ cond e 0 (suc (piece_length mark t))
+      go true h = refl
+      go false h = omega (arith, h)
+
+  placed : (t : List ℕ) → unwrap_or (position (λ b. b == mark) t) (length t) ≡ piece_length mark t
+  placed t = elim (dec_le (length t) (piece_length mark t)) [
+    | yes h ↦ ap (λ (b : Bool). unwrap_or (cond b (Some (position_or_len (λ b. b == mark) t)) None) (length t)) (le-ltb (position_or_len (λ b. b == mark) t) (length t) (omega (arith, piece-place t))) ∙ omega (arith, piece-short t)
+    | no h ↦ ap (λ (b : Bool). unwrap_or (cond b (Some (position_or_len (λ b. b == mark) t)) None) (length t)) (lt-ltb (position_or_len (λ b. b == mark) t) (length t) (omega (arith, piece-place t))) ∙ piece-place t
+  ]
+
+  pub piece-placed : (t : List ℕ) {o : Option ℕ} {n : ℕ} → o ≡ position (λ b. b == mark) t → n ≡ unwrap_or o (length t) → n ≡ piece_length mark t
+  piece-placed t h e = e ∙ ap (λ (o : Option ℕ). unwrap_or o (length t)) h ∙ placed t
 
   pub piece-within : (t : List ℕ) (i : ℕ) → i ≤ length t → i + piece_length mark (drop i t) ≤ length t
   piece-within t i h = omega (arith, piece-short (drop i t), length-drop i t)

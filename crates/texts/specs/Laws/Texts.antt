@@ -1,5 +1,5 @@
 -- The three lines of a text, as they are found one after the other.
-use Rattle.std.specs.Prelude.{◌≡◌, refl, true, false, cond, leb, get_or, take, drop}
+use Rattle.std.specs.Prelude.{◌≡◌, refl, true, false, cond, leb, Some, None, get_or, take, drop}
 use Rattle.std.proofs.Math.Path.{sym, ap, ap₂}
 use Rattle.std.proofs.Common.{◌∙◌, arith, drop_of_length-le}
 use Rattle.std.proofs.Math.Bool.{Bool, ◌&&◌, and-false, and_assoc}
@@ -9,7 +9,6 @@ use borrow.Author.Tests.{leb-true, le-leb, lt-leb, eqb-true, eq-eqb, ne_eqb}
 use Rattle.std.proofs.Math.Dec.{eqb}
 use Rattle.std.proofs.Math.ListN.{length}
 use Rattle.integers.specs.Laws.Tests.{and-true}
-use Rattle.texts.specs.declared.Asked.TheVariants.{Block, Malformed}
 use Rattle.texts.specs.Answers.{piece_length, ThreeLines, asked_told, text_told}
 use Rattle.texts.specs.Laws.Pieces.{pieces-short, pieces-next, pieces-some, pieces-last}
 use Rattle.texts.specs.Laws.Words.{numbers-few}
@@ -85,8 +84,8 @@ module _ (t : List ℕ) where
 
     pub told_is : asked_told first second third ≡ text_told t
     told_is =
-        ap₂ (λ (w : Bool) (n : ℕ). cond w (Block (settings_in first) n) Malformed) (sym formed-is) (ap (λ (l : List ℕ). length (numbers l)) (sym (line-is 1)))
-        ∙ ap (λ (l : List ℕ). cond (well_formed t) (Block (settings_in l) (length (numbers (line_of t 1)))) Malformed) (sym (line-is 0))
+        ap₂ (λ (w : Bool) (n : ℕ). cond w (Some (settings_in first, n)) None) (sym formed-is) (ap (λ (l : List ℕ). length (numbers l)) (sym (line-is 1)))
+        ∙ ap (λ (l : List ℕ). cond (well_formed t) (Some (settings_in l, length (numbers (line_of t 1)))) None) (sym (line-is 0))
 
   -- what it says that it is
   pub formed-counts : well_formed t ≡ true → (length (numbers (line_of t 1)) ≤ 2048) × (length (numbers (line_of t 2)) ≡ 8)

@@ -1,11 +1,9 @@
 -- What a walk over the words of a line has read: the numbers so far stand in front of the room, and the words that are left decide the rest.
-use Rattle.std.specs.Prelude.{◌≡◌, refl, Bool, true, false, ◌&&◌, cond, List, [], ◌∷◌, ◌++◌, map, ℕ, zero, suc, ◌+◌, ◌*◌, ◌-◌, ◌<◌, ◌≤◌, ℤ, length, take, drop, set}
+use Rattle.std.specs.Prelude.{◌≡◌, refl, Bool, true, false, ◌&&◌, cond, List, [], ◌∷◌, ◌++◌, map, ℕ, zero, suc, ◌+◌, ◌*◌, ◌-◌, ◌<◌, ◌≤◌, ℤ, Some, None, length, take, drop, set}
 use Rattle.std.proofs.Common.{sym, ◌∙◌, ap, append-nil, append_assoc, arith, length-append, length-take, length-drop, drop_of_length-le}
 use Rattle.std.proofs.Math.Decide.{dec_le}
 use Rattle.std.proofs.lemmas.List.{length-map}
 use Rattle.std.proofs.lemmas.List.Edits.{sets}
-use Rattle.texts.specs.declared.Count.TheVariants as count
-use Rattle.texts.specs.declared.Number.TheVariants.{Whole, NotOne}
 use Rattle.texts.specs.Answers.{piece_length, number_told, counted}
 use Rattle.texts.specs.Laws.Choices.{chosen, passed}
 use Rattle.texts.specs.Laws.Pieces.{piece-within, pieces-next, full-empty, full-next}
@@ -14,10 +12,10 @@ use Rattle.texts.specs.Text.{space, pieces, full, words, is_number, number_in, a
 
 -- what the answer to a word says of it
 module _ (w : List ℕ) where
-  pub told-whole : (z : ℤ) → number_told w ≡ Whole z → (is_number w ≡ true) × (number_in w ≡ z)
+  pub told-whole : (z : ℤ) → number_told w ≡ Some z → (is_number w ≡ true) × (number_in w ≡ z)
   told-whole z e = let t = chosen _ _ _ (is_number w) e (λ k. let n : ◌≡◌ {A = ℕ} 0 1 = cc in omega arith) in (t.0, cc t.1)
 
-  pub told_none : number_told w ≡ NotOne → is_number w ≡ false
+  pub told_none : number_told w ≡ None → is_number w ≡ false
   told_none e = passed _ _ _ (is_number w) e (λ k. let n : ◌≡◌ {A = ℕ} 0 1 = cc in omega arith)
 
 -- the words from the place i on
@@ -60,7 +58,7 @@ module _ (line : List ℕ) (o : List ℤ) (i n : ℕ) (x : List ℤ) (r : Readin
       next_word = opened ∙ full-next w (pieces space (drop (e + 1) line)) word_some
 
       -- and a number
-      pub reading-number : (z : ℤ) → number_told w ≡ Whole z → Reading line o (e + 1) (n + 1) (set x n z)
+      pub reading-number : (z : ℤ) → number_told w ≡ Some z → Reading line o (e + 1) (n + 1) (set x n z)
       reading-number z h = let t = told-whole w z h in record {
         so = r.so ++ (z ∷ []);
         long = simp length-append (omega (arith, r.long));
@@ -71,12 +69,12 @@ module _ (line : List ℕ) (o : List ℤ) (i n : ℕ) (x : List ℤ) (r : Readin
       }
 
       -- or none
-      not-numeric : number_told w ≡ NotOne → numeric line ≡ false
+      not-numeric : number_told w ≡ None → numeric line ≡ false
       not-numeric h = r.verdict ∙ ap all_numbers next_word ∙ ap (λ (b : Bool). b && all_numbers (words_from line (e + 1))) (told_none w h)
 
-      pub reading-none : {A : Type 0} → number_told w ≡ NotOne → (counted line ≡ count.Other) × (numeric line ≡ true → A)
+      pub reading-none : {A : Type 0} → number_told w ≡ None → (counted line ≡ None) × (numeric line ≡ true → A)
       reading-none h = (
-        ap (λ (b : Bool). cond b (count.Numbers (length (numbers line))) count.Other) (not-numeric h),
+        ap (λ (b : Bool). cond b (Some (length (numbers line))) None) (not-numeric h),
         λ k. let f : true ≡ false = sym k ∙ not-numeric h in let z : ◌≡◌ {A = ℕ} 0 1 = cc in absurd (omega arith),
       )
 
@@ -85,12 +83,17 @@ module _ (line : List ℕ) (o : List ℤ) (i n : ℕ) (x : List ℤ) (r : Readin
     none_left : words_from line i ≡ []
     none_left = ap (λ (l : List ℕ). full (pieces space l)) (drop_of_length-le line {i = i} done)
 
+    -- nor further on
+    pub reading-past : Reading line o (i + 1) n x
+    reading-past = let same : words_from line i ≡ words_from line (i + 1) = none_left ∙ sym (ap (λ (l : List ℕ). full (pieces space l)) (drop_of_length-le line {i = i + 1} (omega arith))) in
+        record { so = r.so; long = r.long; room = r.room; verdict = r.verdict ∙ ap all_numbers same; are = r.are ∙ ap (λ (l : List (List ℕ)). r.so ++ map number_in l) same }
+
     all_read : numbers line ≡ r.so
     all_read = r.are ∙ ap (λ (l : List (List ℕ)). r.so ++ map number_in l) none_left ∙ append-nil r.so
 
-    pub reading-done : (counted line ≡ count.Numbers n) × (x ≡ sets o 0 (numbers line))
+    pub reading-done : (counted line ≡ Some n) × (x ≡ sets o 0 (numbers line))
     reading-done = (
-      ap (λ (b : Bool). cond b (count.Numbers (length (numbers line))) count.Other) (r.verdict ∙ ap all_numbers none_left) ∙ ap count.Numbers (ap length all_read ∙ r.long),
+      ap (λ (b : Bool). cond b (Some (length (numbers line))) None) (r.verdict ∙ ap all_numbers none_left) ∙ ap Some (ap length all_read ∙ r.long),
       r.room ∙ ap (sets o 0) (sym all_read),
     )
 

@@ -1,5 +1,4 @@
 -- `round` is the sum of its three comparisons.
-use borrow.Author.Rules.{rules}
 use mathlib.Core.Path.{◌≡◌, sym, ◌∙◌, ap₂, subst}
 use mathlib.Core.Bool.{Bool, cond}
 use Prim.Native.Nat.{◌≤◌}

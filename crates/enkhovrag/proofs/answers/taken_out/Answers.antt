@@ -1,5 +1,7 @@
 -- `taken_out` goes by the cases of a taken reading.
-use mathlib.Core.Path.{sym, ◌∙◌, ap}
+use Rattle.std.specs.Prelude.{◌≡◌, Err}
+use Rattle.std.proofs.Common.{rules, sym, ◌∙◌, ap}
+use Rattle.readings.specs.declared.Fault.TheVariants.{Missing, OutOfRange}
 use Prim.Native.Nat.{ℕ}
 use native.Mathlib.Omega.{arith}
 use lib.Ieee.{Float, of_bits}
@@ -12,10 +14,10 @@ use Rattle.enkhovrag.proofs.answers.taken_out.Goals as goal
 none : ℕ → Float → EkTaken
 none n v = record { number = n; value = v }
 
-pub returns-in-Missing : goal.returns-in-Missing
+pub returns-in-Err-Missing : goal.returns-in-Err-Missing
 unfolding none of_bits
-returns-in-Missing c = sym (ap taken_out c.in-Missing.is ∙ ap (none 4) (fraction-zero 1024 (omega arith)))
+returns-in-Err-Missing c = let e : c.args.t ≡ Err Missing = search rules in sym (ap taken_out e ∙ ap (none 4) (fraction-zero 1024 (omega arith)))
 
-pub returns-in-OutOfRange : goal.returns-in-OutOfRange
+pub returns-in-Err-OutOfRange : goal.returns-in-Err-OutOfRange
 unfolding none of_bits
-returns-in-OutOfRange c = sym (ap taken_out c.in-OutOfRange.is ∙ ap (none 5) (fraction-zero 1024 (omega arith)))
+returns-in-Err-OutOfRange c = let e : c.args.t ≡ Err OutOfRange = search rules in sym (ap taken_out e ∙ ap (none 5) (fraction-zero 1024 (omega arith)))

@@ -1,10 +1,15 @@
--- `coefficients` is a quarter of the inverse by the point.
-use mathlib.Core.Path.{◌∙◌, ap}
-use Rattle.lattice.specs.Basis.{floors}
+-- The inverse by the point is each row by it.
+use Rattle.std.proofs.Common.{rules, refl, List, [], ℤ, pos}
+use Rattle.integers.specs.Floor.{floor_div}
+use Rattle.integers.specs.Laws.Arrays.{from_fn-map}
+use Rattle.integers.specs.Vectors.{dot}
+use Rattle.std.proofs.iter.Serving.{serving}
+use Rattle.lattice.specs.Basis.{Table8, inverse}
+use Rattle.lattice.specs.Laws.Tables.{table-small}
 use Rattle.lattice.proofs.basis.coefficients.Goals as goal
 
-pub quarters-requires : goal.quarters-requires
-quarters-requires c = c.before.four_times-four.ensures.1
+pub from_fn-requires : goal.from_fn-requires
+from_fn-requires c = let t : Table8 inverse = table-small inverse refl refl in grind serving
 
 pub returns : goal.returns
-returns c = c.quarters.ensures ∙ ap (floors 4) c.before.before.four_times-four.ensures.0
+returns c = from_fn-map _ (λ (r : List ℤ). floor_div (dot r c.args.e.now) 4) inverse [] (pos 0) refl c.from_fn.ensures.items (λ k y q l e. search rules)

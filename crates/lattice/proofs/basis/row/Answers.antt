@@ -1,61 +1,32 @@
--- `row` sums the products of a row's entries with the vector's: after j turns the inner product of the first j of each.
-use mathlib.Core.Path.{refl, ◌∙◌, ap₂}
-use mathlib.Core.List.{List, []}
-use Prim.Native.Nat.{ℕ, suc, ◌^◌}
-use native.Mathlib.Numerals.{add-one}
-use native.Mathlib.Omega.{arith}
-use lib.IntN.{ℤ, ◌+ℤ◌, ◌*ℤ◌}
-use lib.ListN.{get_or, take}
-use lib.Seq.{take_all}
-use mir.Syntax.{w64}
-use mir.Val.{SFits}
-use mir.Facts.{to_z-of_z}
+-- Each entry, product and sum fits 64 bits.
+use Rattle.std.proofs.Common.{◌≡◌, List, ℕ, suc, ◌+◌, ◌^◌, ◌<◌, take, ℤ, ◌+ℤ◌, ◌*ℤ◌, SFits, to_z-of_z, add-one, arith, w64}
 use Rattle.integers.specs.Vectors.{«at», dot, Sized}
 use Rattle.integers.specs.Laws.Sizes.{fits-abs, fits-mul}
 use Rattle.integers.specs.Laws.Sums.{dot-take-suc, dot-bound}
 use Rattle.lattice.proofs.basis.row.Goals as goal
-use Rattle.lattice.proofs.basis.row.Goals.{In-loop-j, Start}
 
-module _ (l : In-loop-j) where
-  abbrev j : ℕ
-  j = l.before.loop-j.j
+module _ {a b : List ℤ} (j : ℕ) (h : Sized 8 (2 ^ 4) a) (k : Sized 8 (2 ^ 32) b) where
+  fits_a : SFits w64 («at» a j)
+  fits_a = fits-abs («at» a j) (omega (arith, h.small j))
 
-  abbrev start : Start
-  start = l.before.before
+  fits_b : SFits w64 («at» b j)
+  fits_b = fits-abs («at» b j) (omega (arith, k.small j))
 
-  abbrev a : List ℤ
-  a = get_or start.args.t.now start.args.i []
+  fits-ab : SFits w64 («at» a j *ℤ «at» b j)
+  fits-ab = fits-mul («at» a j) («at» b j) (2 ^ 4) (2 ^ 32) (h.small j) (k.small j) (omega arith)
 
-  abbrev b : List ℤ
-  b = start.args.c.now
+  sum-fits : j < 8 → SFits w64 (dot (take j a) (take j b) +ℤ «at» a j *ℤ «at» b j)
+  sum-fits l = rw (← dot-take-suc a b j) (fits-abs _ (omega (arith, dot-bound (2 ^ 4) (2 ^ 32) a b h.small k.small (suc j), l)))
 
-  row_small : Sized 8 (2 ^ 4) a
-  row_small = start.requires.1.rows start.args.i start.requires.0
-
-  fx : SFits w64 («at» a j)
-  fx = fits-abs («at» a j) (omega (arith, row_small.small j))
-
-  fy : SFits w64 («at» b j)
-  fy = fits-abs («at» b j) (omega (arith, start.requires.2.small j))
-
-  fxy : SFits w64 («at» a j *ℤ «at» b j)
-  fxy = fits-mul («at» a j) («at» b j) (2 ^ 4) (2 ^ 32) (row_small.small j) (start.requires.2.small j) (omega arith)
-
-  fs : SFits w64 (dot (take j a) (take j b) +ℤ «at» a j *ℤ «at» b j)
-  fs = rw (← dot-take-suc a b j) (fits-abs _ (omega (arith, dot-bound (2 ^ 4) (2 ^ 32) a b row_small.small start.requires.2.small (suc j))))
-
-pub loop-j-init : goal.loop-j-init
-loop-j-init c = (omega arith, refl)
-
-pub overflow_mul-s : goal.overflow_mul-s
-overflow_mul-s c = let l = c.before.before in simp (to_z-of_z, fx l, fy l) (fxy l)
+  more : dot (take j a) (take j b) +ℤ «at» a j *ℤ «at» b j ≡ dot (take (j + 1) a) (take (j + 1) b)
+  more = simp (add-one, dot-take-suc)
 
 pub overflow_add-s : goal.overflow_add-s
-overflow_add-s c = let l = c.before.before in simp (to_z-of_z, fx l, fy l, fxy l, l.before.loop-j.invariant.1) (fs l)
+overflow_add-s c =
+    let j = c.loop-j.j in let h = c.requires.1.rows c.args.i c.requires.0 in let k = c.requires.2 in
+    simp (to_z-of_z, fits_a j h k, fits_b j h k, fits-ab j h k, c.loop-j.invariant) (sum-fits j h k c.loop-j-test.true)
 
 pub loop-j-preserved : goal.loop-j-preserved
-loop-j-preserved c = let l = c.before.before in (omega arith, simp (to_z-of_z, fx l, fy l, fxy l, fs l, l.before.loop-j.invariant.1, add-one, dot-take-suc))
-
-pub returns : goal.returns
-returns c = let s = c.before.before in let j = c.before.loop-j.j in
-    c.before.loop-j.invariant.1 ∙ ap₂ dot (take_all j (get_or s.args.t.now s.args.i []) (omega (arith, (s.requires.1.rows s.args.i s.requires.0).long))) (take_all j s.args.c.now (omega (arith, s.requires.2.long)))
+loop-j-preserved c =
+    let j = c.loop-j.j in let h = c.requires.1.rows c.args.i c.requires.0 in let k = c.requires.2 in
+    simp (to_z-of_z, fits_a j h k, fits_b j h k, fits-ab j h k, sum-fits j h k c.loop-j-test.true, c.loop-j.invariant) (more j h k)

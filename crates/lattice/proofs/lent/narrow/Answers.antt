@@ -1,39 +1,7 @@
--- `narrow` copies entry by entry; each fits 32 bits by its size.
-use mathlib.Core.Path.{refl, ◌∙◌}
-use mathlib.Core.List.{List, map-id}
-use native.Mathlib.Omega.{arith}
-use lib.IntN.{ℤ, pos}
-use mir.Syntax.{w32, w64}
-use mir.Val.{SFits}
-use mir.Facts.{to_z-of_z}
-use Rattle.integers.specs.Vectors.{«at»}
-use Rattle.integers.specs.Laws.Sizes.{fits-mag}
-use Rattle.integers.specs.Laws.Loops.{filled_more, filled-all}
+-- Each number fits 32 bits by its size.
+use Rattle.std.proofs.Common.{rules, pos}
+use Rattle.integers.specs.Laws.Arrays.{from_fn-list}
 use Rattle.lattice.proofs.lent.narrow.Goals as goal
-use Rattle.lattice.proofs.lent.narrow.Goals.{After-r-1}
-
--- the entry that is copied
-module _ (c : After-r-1) where
-  abbrev a : List ℤ
-  a = c.before.before.before.args.a.now
-
-  abbrev x : ℤ
-  x = «at» a c.before.before.loop-i.i
-
-  fx : SFits w64 x
-  fx = record { sfits = c.r-1.given }
-
-  gx : SFits w32 x
-  gx = fits-mag w32 x (omega (arith, c.before.before.before.requires.small c.before.before.loop-i.i))
-
-pub loop-i-init : goal.loop-i-init
-loop-i-init c = record { within = omega arith; long = refl; same = refl }
-
-pub overflow_cast-r : goal.overflow_cast-r
-overflow_cast-r c = simp (to_z-of_z, fx c) (gx c)
-
-pub loop-i-preserved : goal.loop-i-preserved
-loop-i-preserved c = let b = c.before.before in simp (to_z-of_z, fx c, gx c) (filled_more (λ (z : ℤ). z) 8 (a c) b.before.requires.long (pos 0) (x c) refl c.before.loop-i-test.true b.loop-i.invariant)
 
 pub returns : goal.returns
-returns c = let b = c.before.before in filled-all (λ (z : ℤ). z) 8 b.args.a.now b.requires.long (omega arith) c.before.loop-i.invariant ∙ map-id b.args.a.now
+returns c = from_fn-list _ c.args.a.now (pos 0) c.requires.long c.from_fn.ensures.items (λ k y q l e. search rules)

@@ -1,38 +1,27 @@
--- `odds` counts the odd entries: after i turns those of the first i.
-use mathlib.Core.Path.{◌≡◌, refl, sym, ◌∙◌, ap, ap₂}
-use Prim.Native.Nat.{◌+◌}
-use native.Mathlib.Numerals.{add-one}
-use native.Mathlib.Omega.{arith}
-use lib.ListN.{take}
-use lib.Seq.{take_all}
-use mir.Syntax.{w64}
-use mir.Val.{SFits}
-use mir.Facts.{to_z-of_z}
-use Rattle.integers.specs.Vectors.{«at»}
+-- The count with an entry.
+use Rattle.std.proofs.Common.{◌≡◌, sym, ◌∙◌, ap, ap₂, Bool, List, ℕ, suc, zero, refl, ◌+◌, ◌<◌, ◌^◌, take, ℤ, nat_abs, eqb, SFits, w64, to_z-of_z, add-one, mod-lt, arith}
+use Rattle.std.specs.Int.{from_bool}
 use Rattle.integers.specs.Laws.Sizes.{fits-abs}
+use Rattle.integers.specs.Vectors.{«at», Sized}
 use Rattle.lattice.specs.Doubled.{par, odds}
 use Rattle.lattice.specs.Laws.Member.{odds-take-suc, odds-count}
 use Rattle.lattice.proofs.member.odds.Goals as goal
-use Rattle.lattice.proofs.member.odds.Goals.{After-parity-n}
 
--- the parity of the entry that is read
-read : (c : After-parity-n) → let l = c.before.before in c.parity-n.result ≡ par («at» l.before.before.args.e.now l.before.loop-i.i)
-read c = let l = c.before.before in let s = l.before.before in
-    let f : SFits w64 («at» s.args.e.now l.before.loop-i.i) = fits-abs _ (omega (arith, s.requires.small l.before.loop-i.i)) in
-    simp (to_z-of_z, f) at c.parity-n.ensures
+bit : (n : ℕ) → n < 2 → from_bool (eqb n 1) ≡ n
+bit zero h = refl
+bit (suc zero) h = refl
+bit (suc (suc n)) h = absurd (omega arith)
 
--- the count with that entry
-counted : (c : After-parity-n) → let l = c.before.before in let i = l.before.loop-i.i in l.before.loop-i.n + c.parity-n.result ≡ odds (take (i + 1) l.before.before.args.e.now)
-counted c = let l = c.before.before in let i = l.before.loop-i.i in let e = l.before.before.args.e.now in ap₂ ◌+◌ l.before.loop-i.invariant.1 (read c) ∙ sym (rw (add-one i) (odds-take-suc e i))
+more : (e : List ℤ) (i m n : ℕ) (b : Bool) → m ≡ odds (take i e) → b ≡ eqb (par («at» e i)) 1 → n ≡ from_bool b → m + n ≡ odds (take (i + 1) e)
+more e i m n b p q r = ap₂ ◌+◌ p (r ∙ ap from_bool q ∙ bit (par («at» e i)) (mod-lt (nat_abs («at» e i)) (omega arith))) ∙ sym (rw (add-one i) (odds-take-suc e i))
 
-pub loop-i-init : goal.loop-i-init
-loop-i-init c = (omega arith, refl)
+fits : (e : List ℤ) (i : ℕ) → Sized 8 (2 ^ 32) e → SFits w64 («at» e i)
+fits e i h = fits-abs _ (omega (arith, h.small i))
 
 pub overflow_add-n : goal.overflow_add-n
-overflow_add-n c = let l = c.before.before in let i = l.before.loop-i.i in rw (counted c) (record { fits = omega (arith, odds-count l.before.before.args.e.now (i + 1)) })
+overflow_add-n c = let e = c.args.e.now in let i = c.loop-x.x-index in
+    rw (more e i c.loop-x.n c.from-n.result c.odd.result c.loop-x.invariant (simp (to_z-of_z, fits e i c.requires) at c.odd.ensures) c.from-n.ensures) (record { fits = omega (arith, odds-count e (i + 1)) })
 
-pub loop-i-preserved : goal.loop-i-preserved
-loop-i-preserved c = (omega arith, counted c)
-
-pub returns : goal.returns
-returns c = let s = c.before.before in c.before.loop-i.invariant.1 ∙ ap odds (take_all c.before.loop-i.i s.args.e.now (omega (arith, s.requires.long)))
+pub loop-x-preserved : goal.loop-x-preserved
+loop-x-preserved c = let e = c.args.e.now in let i = c.loop-x.x-index in
+    more e i c.loop-x.n c.from-n.result c.odd.result c.loop-x.invariant (simp (to_z-of_z, fits e i c.requires) at c.odd.ensures) c.from-n.ensures

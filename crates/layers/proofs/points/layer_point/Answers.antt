@@ -1,25 +1,16 @@
 -- Where q is 2 the table has the layer point, and else the rule gives it.
-use mathlib.Core.Path.{◌≡◌, sym, ◌∙◌, ap, subst}
-use Prim.Native.Nat.{ℕ}
-use lib.IntN.{ℤ, nat_abs}
-use mir.Syntax.{w64}
-use mir.Val.{SFits, to_z, of_z}
-use mir.Facts.{to_z-of_z}
-use Rattle.layers.specs.Digits.{IsLayer}
+use Rattle.std.proofs.Common.{◌≡◌, sym, ◌∙◌, ap, rules, ℕ, ℤ, pos, nat_abs, length, SFits, w64, to_z, of_z, to_z-of_z}
+use Rattle.integers.specs.Laws.Arrays.{from_fn-list}
 use Rattle.layers.specs.E8.{layer_point8}
+use Rattle.layers.proofs.Laws.Bases.{layer_point8-sized}
 use Rattle.layers.proofs.points.layer_point.Goals as goal
 
-two : (q : ℤ) → SFits w64 q → of_z w64 q ≡ 2 → nat_abs q ≡ 2
-two q f e = ap nat_abs (sym (to_z-of_z f) ∙ ap (to_z w64) e)
-
-pub table_point-requires : goal.table_point-requires
-table_point-requires c = let e = two c.args.q c.ranges.q c.if-q-eq2.true in (c.requires.0 e, subst (λ (q : ℕ). IsLayer 8 q c.args.ds.now) e c.requires.2)
-
-pub ruled_point-requires : goal.ruled_point-requires
-ruled_point-requires c = simp (to_z-of_z, c.ranges.q) (c.requires.1, c.requires.2)
+two : (q : ℤ) → SFits w64 q → of_z w64 q ≡ 2 → 2 ≡ nat_abs q
+two q f e = sym (ap nat_abs (sym (to_z-of_z f) ∙ ap (to_z w64) e))
 
 pub returns-then-q-eq2 : goal.returns-then-q-eq2
-returns-then-q-eq2 c = c.wide_point.ensures ∙ c.table_point.ensures ∙ ap (λ (q : ℕ). layer_point8 q c.args.ds.now) (sym (two c.args.q c.ranges.q c.if-q-eq2.true))
-
-pub returns-else-q-eq2 : goal.returns-else-q-eq2
-returns-else-q-eq2 c = simp (to_z-of_z, c.ranges.q) at c.ruled_point.ensures
+returns-then-q-eq2 c =
+    let ds = c.args.ds.now in let l = c.table_point-l.result in
+    let e : l ≡ layer_point8 (nat_abs c.args.q) ds = c.table_point-l.ensures ∙ ap (λ (q : ℕ). layer_point8 q ds) (two c.args.q c.ranges.q c.if-q-eq2.true) in
+    let long : length l ≡ 8 = ap length e ∙ (layer_point8-sized c.args.q c.requires.1 ds c.requires.2).long in
+    from_fn-list _ l (pos 0) long c.from_fn.ensures.items (λ k y q l e. search rules) ∙ e

@@ -1,75 +1,34 @@
--- `plus_times` fills by a + k b: after i turns the first i entries are right.
-use mathlib.Core.Path.{◌≡◌, refl, sym, ◌∙◌}
-use mathlib.Core.List.{List, map-id}
-use Prim.Native.Nat.{◌^◌, ◌≤◌}
-use native.Mathlib.Omega.{arith}
-use lib.IntN.{ℤ, pos, nat_abs, ◌+ℤ◌, ◌*ℤ◌}
-use lib.ListN.{length, get_or}
-use mir.Syntax.{w64}
-use mir.Val.{SFits}
-use mir.Facts.{to_z-of_z}
-use Rattle.integers.specs.Laws.Loops.{filled_more, filled-all}
+-- Each product and sum fits 64 bits.
+use Rattle.std.proofs.Common.{◌≡◌, rules, arith, List, ℕ, ℤ, pos, nat_abs, ◌+ℤ◌, ◌*ℤ◌, ◌^◌, ◌≤◌, SFits, w64}
+use Rattle.std.proofs.iter.Serving.{serving}
+use Rattle.integers.specs.Laws.Arrays.{from_fn-list}
 use Rattle.integers.specs.Laws.Sizes.{fits-abs, fits-add, abs-mul-le}
 use Rattle.integers.specs.Laws.Sums.{entries, lengths}
-use Rattle.integers.specs.Vectors.{«at», add_v, scale_v}
+use Rattle.integers.specs.Vectors.{«at», add_v, scale_v, Sized}
 use Rattle.layers.proofs.points.plus_times.Goals as goal
-use Rattle.layers.proofs.points.plus_times.Goals.{After-r-in-loop-i-1, At-loop-i, Start}
 
--- the entry i of each, and what is made of them
-module _ (c : After-r-in-loop-i-1) where
-  abbrev l : At-loop-i
-  l = c.before.before.before
+entry_fits : (a : List ℤ) → Sized 8 (2 ^ 30) a → (j : ℕ) → SFits w64 («at» a j)
+entry_fits a h j = fits-abs _ (omega (arith, h.small j))
 
-  abbrev s : Start
-  s = l.before
+product_fits : (k : ℤ) (b : List ℤ) → nat_abs k ≤ 2 ^ 30 → Sized 8 (2 ^ 30) b → (j : ℕ) → SFits w64 (k *ℤ «at» b j)
+product_fits k b l h j = fits-abs _ (omega (arith, abs-mul-le k («at» b j) l (h.small j)))
 
-  abbrev x : ℤ
-  x = get_or s.args.a.now l.loop-i.i (pos 0)
+sum_fits : (a : List ℤ) (k : ℤ) (b : List ℤ) → Sized 8 (2 ^ 30) a → nat_abs k ≤ 2 ^ 30 → Sized 8 (2 ^ 30) b → (j : ℕ) → SFits w64 («at» a j +ℤ k *ℤ «at» b j)
+sum_fits a k b g l h j = fits-add («at» a j) (k *ℤ «at» b j) (omega (arith, abs-mul-le k («at» b j) l (h.small j), g.small j))
 
-  abbrev y : ℤ
-  y = get_or s.args.b.now l.loop-i.i (pos 0)
+entry : (a : List ℤ) (k : ℤ) (b : List ℤ) (j : ℕ) → «at» (add_v a (scale_v k b)) j ≡ «at» a j +ℤ k *ℤ «at» b j
+entry a k b j = simp entries
 
-  abbrev k : ℤ
-  k = s.args.k
-
-  fx : SFits w64 x
-  fx = fits-abs x (omega (arith, s.requires.0.small l.loop-i.i))
-
-  fy : SFits w64 y
-  fy = fits-abs y (omega (arith, s.requires.1.small l.loop-i.i))
-
-  size : nat_abs (k *ℤ y) ≤ 2 ^ 60
-  size = omega (arith, abs-mul-le k y s.requires.2 (s.requires.1.small l.loop-i.i))
-
-  fky : SFits w64 (k *ℤ y)
-  fky = fits-abs (k *ℤ y) (omega (arith, size))
-
-  fsum : SFits w64 (x +ℤ k *ℤ y)
-  fsum = fits-add x (k *ℤ y) (omega (arith, size, s.requires.0.small l.loop-i.i))
-
-  abbrev whole : List ℤ
-  whole = add_v s.args.a.now (scale_v k s.args.b.now)
-
-  entry : «at» whole l.loop-i.i ≡ x +ℤ k *ℤ y
-  entry = simp entries
-
-  whole_long : length whole ≡ 8
-  whole_long = simp lengths (omega (arith, s.requires.0.long, s.requires.1.long))
-
-pub loop-i-init : goal.loop-i-init
-loop-i-init c = record { within = omega arith; long = refl; same = refl }
-
-pub overflow_mul-r : goal.overflow_mul-r
-overflow_mul-r c = simp (to_z-of_z, (s c).ranges.k, fy c) (fky c)
-
-pub overflow_add-r : goal.overflow_add-r
-overflow_add-r c = simp (to_z-of_z, (s c).ranges.k, fx c, fy c, fky c) (fsum c)
-
-pub loop-i-preserved : goal.loop-i-preserved
-loop-i-preserved c = let b = l c in let fk = (s c).ranges.k in
-    simp (to_z-of_z, fk, fx c, fy c, fky c, fsum c)
-    (filled_more (λ (z : ℤ). z) 8 (whole c) (whole_long c) (pos 0) (x c +ℤ k c *ℤ y c) (sym (entry c)) c.before.before.loop-i-test.true (simp (to_z-of_z, fk) at b.loop-i.invariant))
+pub from_fn-requires : goal.from_fn-requires
+from_fn-requires c =
+    let a = c.args.a.now in let b = c.args.b.now in let k = c.args.k in let r = c.requires in
+    let f = entry_fits a r.0 in let g = entry_fits b r.1 in let p = product_fits k b r.2 r.1 in let s = sum_fits a k b r.0 r.2 r.1 in
+    grind (serving, f, g, p, s)
 
 pub returns : goal.returns
-returns c = let l = c.before in let s = l.before in let whole = add_v s.args.a.now (scale_v s.args.k s.args.b.now) in
-    filled-all (λ (z : ℤ). z) 8 whole (simp lengths (omega (arith, s.requires.0.long, s.requires.1.long))) (omega arith) (simp (to_z-of_z, s.ranges.k) at l.loop-i.invariant) ∙ map-id whole
+returns c =
+    let a = c.args.a.now in let b = c.args.b.now in let k = c.args.k in let r = c.requires in
+    from_fn-list _ (add_v a (scale_v k b)) (pos 0) (simp lengths (omega (arith, r.0.long, r.1.long))) c.from_fn.ensures.items
+    (λ j y q l e.
+    let f = entry_fits a r.0 j in let g = entry_fits b r.1 j in let p = product_fits k b r.2 r.1 j in let s = sum_fits a k b r.0 r.2 r.1 j in
+    search (rules, entry))

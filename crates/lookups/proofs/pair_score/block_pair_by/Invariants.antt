@@ -1,5 +1,5 @@
 -- `block_pair_by` goes from the first block's top layer down: it holds the sums of the rows of the layers from i on, which stay small whatever the table holds.
-use Rattle.std.proofs.Common.{List, map, ℕ, ◌*◌, ◌^◌, ◌≤◌, ℤ, drop}
+use Rattle.std.proofs.Common.{List, map, ℕ, ◌*◌, ◌^◌, ℤ, drop}
 use Rattle.layers.specs.Digits.{cut}
 use Rattle.lookups.specs.Laws.Sums.{power_sum, Summed, terms}
 use Rattle.lookups.specs.Scoring.{pair_entry}
@@ -14,7 +14,4 @@ abbrev pub row_sum : List ℤ → ℕ → List ℕ → List ℕ → ℤ
 row_sum t m b' d = power_sum 2 (map (pair_entry t d) (cut 8 m (drop 1 b')))
 
 abbrev pub invariant-loop-i : goal.invariant-loop-i
-invariant-loop-i l = (l.i ≤ l.m) × Summed 2 B (terms (row_sum l.table l.m l.b2) l.m (drop 1 l.b)) l.i l.z
-
-abbrev pub decreases-loop-i : goal.decreases-loop-i
-decreases-loop-i l = l.i
+invariant-loop-i g l = Summed 2 B (terms (row_sum l.table g.row.M l.b2) g.row.M (drop 1 l.b)) l.i l.z

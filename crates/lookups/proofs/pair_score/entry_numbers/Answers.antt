@@ -14,12 +14,11 @@ module _ (m : ℕ) (ds : List ℕ) (i : ℕ) where
   layer h k = subst (IsLayer 8 2) (sym layer-is) (code-layer 8 2 m ds h i k)
 
 pub entry_number-requires : goal.entry_number-requires
-entry_number-requires c = (layer c.args.m c.args.ds.now c.loop-i.i c.requires.1 c.loop-i-test.true, omega arith)
+entry_number-requires g c = (layer g.row.M c.args.ds.now c.loop-i.i c.requires.1 c.loop-i-test.true, omega arith)
 
 pub loop-i-preserved : goal.loop-i-preserved
-loop-i-preserved c = let i : ℕ = c.loop-i.i in let ds : List ℕ = c.args.ds.now in (
-  omega arith,
-  length-set c.loop-i.numbers i _ ∙ c.loop-i.invariant.1,
-  ap (λ (n : ℕ). take (i + 1) (set c.loop-i.numbers i n)) (c.entry_number.ensures ∙ ap (entry_of 2) (layer-is c.args.m ds i))
-      ∙ entries-more c.loop-i.numbers i ds (omega (arith, c.loop-i.invariant.1, c.requires.0, c.loop-i-test.true)) c.loop-i.invariant.2,
+loop-i-preserved g c = let i : ℕ = c.loop-i.i in let ds : List ℕ = c.args.ds.now in (
+  length-set c.loop-i.numbers i _ ∙ c.loop-i.invariant.0,
+  ap (λ (n : ℕ). take (i + 1) (set c.loop-i.numbers i n)) (c.entry_number.ensures ∙ ap (entry_of 2) (layer-is g.row.M ds i))
+      ∙ entries-more c.loop-i.numbers i ds (omega (arith, c.loop-i.invariant.0, c.loop-i-test.true)) c.loop-i.invariant.1,
 )

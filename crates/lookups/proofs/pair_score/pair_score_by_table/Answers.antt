@@ -1,5 +1,7 @@
 -- `pair_score_by_table` answers what is refused, and else the total over the blocks of both records, of which there are equally many.
-use Rattle.std.proofs.Common.{◌≡◌, sym, ◌∙◌, ap, ap₂, subst, List, ℕ, ◌-◌, ◌≤◌, ℤ, pos, nat_abs, length, take, drop, arith, w64}
+use Rattle.std.specs.Prelude.{Ok}
+use Rattle.refusals.specs.Verdicts.{Verdict}
+use Rattle.std.proofs.Common.{rules, ◌≡◌, sym, ◌∙◌, ap, ap₂, subst, List, ℕ, ◌-◌, ◌≤◌, ℤ, pos, nat_abs, length, take, drop, arith, w64}
 use mathlib.Core.Path.{subst₂}
 use mir.Val.{SFits}
 use mir.Facts.{to_z-of_z}
@@ -7,8 +9,6 @@ use Rattle.integers.specs.Laws.Loops.{rest-whole}
 use Rattle.layers.specs.Digits.{cut}
 use Rattle.records.specs.Eight.Codes.{Coder, AreBlocks, block_size, blocks_in}
 use Rattle.refusals.specs.declared.settings.Settings.{Settings}
-use Rattle.refusals.specs.declared.Verdict.{Verdict}
-use Rattle.refusals.specs.declared.Verdict.TheVariants.{Accepted}
 use Rattle.refusals.specs.Answers.{valued}
 use Rattle.scores.specs.Eight.Asked.{exact-blocks}
 use Rattle.scores.specs.Scores.{total}
@@ -18,7 +18,7 @@ use Rattle.tables.specs.Tables.{pair_size}
 use Rattle.lookups.proofs.pair_score.pair_score_by_table.Goals as goal
 
 -- where nothing is refused
-module _ (s : Settings) (steps : List ℤ) (b : List ℕ) (steps' : List ℤ) (b' : List ℕ) (t : List ℤ) (e : Accepted ≡ check_pair_by s steps b steps' b' (length t)) where
+module _ (s : Settings) (steps : List ℤ) (b : List ℕ) (steps' : List ℤ) (b' : List ℕ) (t : List ℤ) (e : (Ok tt) ≡ check_pair_by s steps b steps' b' (length t)) where
   abbrev m : ℕ
   m = nat_abs s.m
 
@@ -68,36 +68,36 @@ counted : (b : List ℕ) (m m' k : ℕ) → m ≡ m' → k ≡ blocks_in m b →
 counted b m m' k e f = f ∙ ap (λ (m : ℕ). blocks_in m b) e
 
 pub layers-m-requires : goal.layers-m-requires
-layers-m-requires c = (taken _ _ _ _ _ _ c.in-Accepted.ensures).pair.first.allowed
+layers-m-requires c = (taken _ _ _ _ _ _ c.in_ok-check_pair_by.ensures).pair.first.allowed
 
 pub blocks_in-k-requires : goal.blocks_in-k-requires
-blocks_in-k-requires c = let p = (taken _ _ _ _ _ _ c.in-Accepted.ensures).pair in (omega (arith, c.layers-m.ensures, p.first.allowed.m-most), p.code.frame.there)
+blocks_in-k-requires c = let p = (taken _ _ _ _ _ _ c.in_ok-check_pair_by.ensures).pair in (omega (arith, c.layers-m.ensures, p.first.allowed.m-most), p.code.frame.there)
 
 pub slice_bounds-pair_total_by-count : goal.slice_bounds-pair_total_by-count
-slice_bounds-pair_total_by-count c = (taken _ _ _ _ _ _ c.in-Accepted.ensures).pair.code.frame.there
+slice_bounds-pair_total_by-count c = (taken _ _ _ _ _ _ c.in_ok-check_pair_by.ensures).pair.code.frame.there
 
 pub slice_bounds-pair_total_by-start : goal.slice_bounds-pair_total_by-start
-slice_bounds-pair_total_by-start c = (taken _ _ _ _ _ _ c.in-Accepted.ensures).pair.code.frame.there
+slice_bounds-pair_total_by-start c = (taken _ _ _ _ _ _ c.in_ok-check_pair_by.ensures).pair.code.frame.there
 
-pub slice_bounds-pair_total_by-count-in-Accepted : goal.slice_bounds-pair_total_by-count-in-Accepted
-slice_bounds-pair_total_by-count-in-Accepted c = (taken _ _ _ _ _ _ c.in-Accepted.ensures).pair.other.frame.there
+pub slice_bounds-pair_total_by-count-2 : goal.slice_bounds-pair_total_by-count-2
+slice_bounds-pair_total_by-count-2 c = (taken _ _ _ _ _ _ c.in_ok-check_pair_by.ensures).pair.other.frame.there
 
-pub slice_bounds-pair_total_by-start-in-Accepted : goal.slice_bounds-pair_total_by-start-in-Accepted
-slice_bounds-pair_total_by-start-in-Accepted c = (taken _ _ _ _ _ _ c.in-Accepted.ensures).pair.other.frame.there
+pub slice_bounds-pair_total_by-start-2 : goal.slice_bounds-pair_total_by-start-2
+slice_bounds-pair_total_by-start-2 c = (taken _ _ _ _ _ _ c.in_ok-check_pair_by.ensures).pair.other.frame.there
 
 pub pair_total_by-requires : goal.pair_total_by-requires
-pair_total_by-requires c = let e = c.in-Accepted.ensures in
+pair_total_by-requires c = let e = c.in_ok-check_pair_by.ensures in
     subst₂ (Asked _ _ _ _ _ _ e) (sym c.layers-m.ensures) (sym (counted c.args.code.now c.layers-m.result (nat_abs c.args.s.m) c.blocks_in-k.result c.layers-m.ensures c.blocks_in-k.ensures)) (asked _ _ _ _ _ _ e)
 
-pub returns-in-Refused : goal.returns-in-Refused
+pub returns-in_err-check_pair_by : goal.returns-in_err-check_pair_by
 unfolding pair_score_by
-returns-in-Refused c = let a = c.args in
-    record { answer = c.refused.ensures ∙ ap (λ (v : Verdict). valued v (pair_total_by (nat_abs a.s.m) a.steps.now a.steps2.now a.table.now a.code.now a.code2.now)) c.in-Refused.ensures }
+returns-in_err-check_pair_by c = let a = c.args in
+    record { answer = (search rules) ∙ ap (λ (v : Verdict). valued v (pair_total_by (nat_abs a.s.m) a.steps.now a.steps2.now a.table.now a.code.now a.code2.now)) c.in_err-check_pair_by.ensures }
 
-pub returns-in-Accepted : goal.returns-in-Accepted
+pub returns : goal.returns
 unfolding pair_score_by
-returns-in-Accepted c = let a = c.args in let e = c.in-Accepted.ensures in
+returns c = let a = c.args in let e = c.in_ok-check_pair_by.ensures in
     let f : SFits w64 c.pair_total_by.result = record { sfits = c.pair_total_by.type_inv } in
     let same : c.pair_total_by.result ≡ pair_total_by (nat_abs a.s.m) a.steps.now a.steps2.now a.table.now a.code.now a.code2.now =
     value-is _ _ _ _ _ _ e c.layers-m.result c.blocks_in-k.result c.pair_total_by.result c.layers-m.ensures (counted a.code.now c.layers-m.result (nat_abs c.args.s.m) c.blocks_in-k.result c.layers-m.ensures c.blocks_in-k.ensures) c.pair_total_by.ensures in
-    record { answer = ap (valued Accepted) (to_z-of_z f ∙ same) ∙ ap (λ (v : Verdict). valued v (pair_total_by (nat_abs a.s.m) a.steps.now a.steps2.now a.table.now a.code.now a.code2.now)) e }
+    record { answer = ap (valued (Ok tt)) (to_z-of_z f ∙ same) ∙ ap (λ (v : Verdict). valued v (pair_total_by (nat_abs a.s.m) a.steps.now a.steps2.now a.table.now a.code.now a.code2.now)) e }

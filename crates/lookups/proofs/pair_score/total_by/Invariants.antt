@@ -1,5 +1,5 @@
 -- `total_by` adds block after block: after i turns z is the total of the first i, each of which is small whatever the table holds.
-use Rattle.std.proofs.Common.{◌≡◌, ◌*◌, ◌-◌, ◌^◌, ◌≤◌, nat_abs}
+use Rattle.std.proofs.Common.{◌≡◌, ◌*◌, ◌^◌, ◌≤◌, nat_abs}
 use Rattle.layers.specs.Digits.{cut}
 use Rattle.records.specs.Eight.Codes.{block_size}
 use Rattle.scores.specs.Scores.{total}
@@ -7,8 +7,4 @@ use Rattle.lookups.specs.Scoring.{block_pair_by}
 use Rattle.lookups.proofs.pair_score.total_by.Given as goal
 
 abbrev pub invariant-loop-i : goal.invariant-loop-i
-invariant-loop-i l =
-    (l.i ≤ l.k) × (l.z ≡ total (block_pair_by l.m l.steps l.steps2 l.table) (cut (block_size l.m) l.i l.body) (cut (block_size l.m) l.i l.body2)) × (nat_abs l.z ≤ l.i * 2 ^ 35)
-
-abbrev pub decreases-loop-i : goal.decreases-loop-i
-decreases-loop-i l = l.k - l.i
+invariant-loop-i g l = (l.z ≡ total (block_pair_by g.row.M l.steps l.steps2 l.table) (cut (block_size g.row.M) l.i l.body) (cut (block_size g.row.M) l.i l.body2)) × (nat_abs l.z ≤ l.i * 2 ^ 35)

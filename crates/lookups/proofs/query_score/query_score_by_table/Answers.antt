@@ -1,13 +1,12 @@
 -- `query_score_by_table` is the list of checks and the score: the first two checks are made as one, and those of the record and the table with the score.
-use Rattle.std.proofs.Common.{◌≡◌, refl, sym, ◌∙◌, ap, List, [], ◌∷◌, ℕ, ℤ, nat_abs, length}
+use Rattle.std.proofs.Common.{rules, ◌≡◌, refl, sym, ◌∙◌, ap, List, [], ◌∷◌, ℕ, ℤ, nat_abs, length}
 use Rattle.records.specs.Eight.Asked.{coder-accepted}
 use Rattle.refusals.specs.declared.settings.Settings.{Settings}
-use Rattle.refusals.specs.declared.Verdict.{Verdict}
 use Rattle.refusals.specs.Answers.{valued}
 use Rattle.refusals.specs.Laws.Verdicts.{first-last}
 use Rattle.refusals.specs.Settings.{check_settings}
 use Rattle.refusals.specs.Steps.{check_steps}
-use Rattle.refusals.specs.Verdicts.{first_refusal}
+use Rattle.refusals.specs.Verdicts.{first_refusal, Verdict}
 use Rattle.tables.specs.Filling.{check_table}
 use Rattle.tables.proofs.Laws.Filling.{table_taken}
 use Rattle.tables.specs.Tables.{query_most}
@@ -28,21 +27,21 @@ module _ (s : Settings) (steps : List ℤ) (b : List ℕ) (t : List ℤ) where
   decided v w d e = ap (λ (v : Verdict). valued v value) (sym (query-by-is s steps b (length t) v w (sym d) (sym e)))
 
 pub check_table-requires : goal.check_table-requires
-check_table-requires c = (coder-accepted c.args.s c.args.steps.now (sym c.in-Accepted.ensures)).allowed
+check_table-requires c = (coder-accepted c.args.s c.args.steps.now (sym c.in_ok-check_coder.ensures)).allowed
 
 pub score_record-requires : goal.score_record-requires
-score_record-requires c = (coder-accepted c.args.s c.args.steps.now (sym c.in-Accepted.ensures), table_taken query_most c.args.s (sym c.in-Accepted-check_table.ensures))
+score_record-requires c = (coder-accepted c.args.s c.args.steps.now (sym c.in_ok-check_coder.ensures), table_taken query_most c.args.s (sym c.in_ok-check_table.ensures))
 
-pub returns-in-Refused : goal.returns-in-Refused
-returns-in-Refused c = let a = c.args in record { answer = c.refused.ensures ∙ decided a.s a.steps.now a.code.now a.table.now _ _ c.in-Refused.ensures refl }
+pub returns-in_err-check_coder : goal.returns-in_err-check_coder
+returns-in_err-check_coder c = let a = c.args in record { answer = (search rules) ∙ decided a.s a.steps.now a.code.now a.table.now _ _ c.in_err-check_coder.ensures refl }
 
-pub returns-in-Refused-check_table : goal.returns-in-Refused-check_table
-returns-in-Refused-check_table c = let a = c.args in
-    record { answer = c.refused-in-Refused-check_table.ensures ∙ decided a.s a.steps.now a.code.now a.table.now _ _ c.in-Accepted.ensures c.in-Refused-check_table.ensures }
+pub returns-in_err-check_table : goal.returns-in_err-check_table
+returns-in_err-check_table c = let a = c.args in
+    record { answer = (search rules) ∙ decided a.s a.steps.now a.code.now a.table.now _ _ c.in_ok-check_coder.ensures c.in_err-check_table.ensures }
 
-pub returns-in-Accepted-check_table : goal.returns-in-Accepted-check_table
-returns-in-Accepted-check_table c = let a = c.args in record {
+pub returns : goal.returns
+returns c = let a = c.args in record {
   answer = c.score_record.ensures
       ∙ ap (λ (v : Verdict). valued v (value a.s a.steps.now a.code.now a.table.now)) (sym (first-last (rest a.s a.steps.now a.code.now a.table.now)))
-      ∙ decided a.s a.steps.now a.code.now a.table.now _ _ c.in-Accepted.ensures c.in-Accepted-check_table.ensures;
+      ∙ decided a.s a.steps.now a.code.now a.table.now _ _ c.in_ok-check_coder.ensures c.in_ok-check_table.ensures;
 }

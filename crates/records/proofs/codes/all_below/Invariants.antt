@@ -1,16 +1,10 @@
 -- `all_below` counts faults and raises eight numbers, block by block and layer by layer: at the end no digit is past the greatest of them.
-use Prim.Native.Nat.{◌+◌, ◌-◌}
+use Prim.Native.Nat.{◌+◌}
 use Rattle.records.specs.Laws.Glance.{Raising, Glanced}
 use Rattle.records.proofs.codes.all_below.Given as goal
 
 abbrev pub invariant-loop-j : goal.invariant-loop-j
-invariant-loop-j l = Raising l.body (l.at + 1) l.initial.top l.j l.top
-
-abbrev pub decreases-loop-j : goal.decreases-loop-j
-decreases-loop-j l = l.m - l.j
+invariant-loop-j g l = Raising l.body (l.at + 1) l.initial.top l.j l.top
 
 abbrev pub invariant-loop-i : goal.invariant-loop-i
-invariant-loop-i l = Glanced l.steps l.n l.m l.body l.i l.faults l.top
-
-abbrev pub decreases-loop-i : goal.decreases-loop-i
-decreases-loop-i l = l.k - l.i
+invariant-loop-i g l = Glanced l.steps l.n g.row.M l.body l.i l.faults l.top

@@ -1,12 +1,8 @@
 -- `rounds` fills f by the rounding of each entry, and a by what that leaves.
-use Prim.Native.Nat.{◌-◌}
 use lib.IntN.{pos, ◌*ℤ◌}
 use Rattle.integers.specs.Laws.Loops.{Filled}
 use Rattle.rounding.specs.Rounding.{round, left}
 use Rattle.rounding.proofs.half.rounds.Given as goal
 
 abbrev pub invariant-loop-i : goal.invariant-loop-i
-invariant-loop-i l = Filled (round (pos 2 *ℤ l.s)) 8 l.d l.i l.f × Filled (left (pos 2 *ℤ l.s)) 8 l.d l.i l.a
-
-abbrev pub decreases-loop-i : goal.decreases-loop-i
-decreases-loop-i l = 8 - l.i
+invariant-loop-i l = record { whole : Filled (round (pos 2 *ℤ l.s)) 8 l.d l.i l.f; rest : Filled (left (pos 2 *ℤ l.s)) 8 l.d l.i l.a }

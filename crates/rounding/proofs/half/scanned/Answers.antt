@@ -1,63 +1,31 @@
 -- `scanned` sees one entry more in each turn.
-use mathlib.Core.Path.{◌≡◌, sym, ◌∙◌, ap, subst}
-use mathlib.Core.List.{List}
-use Prim.Native.Nat.{ℕ}
-use native.Mathlib.Numerals.{add-one}
 use native.Mathlib.Omega.{arith}
-use lib.IntN.{ℤ, pos}
-use mir.Syntax.{w64}
-use mir.Val.{SFits}
-use mir.Facts.{to_z-of_z}
-use Rattle.integers.specs.Laws.Sizes.{fits-abs}
+use mathlib.Core.Path.{◌≡◌, sym, ◌∙◌, ap, subst}
+use mathlib.Core.List.{map}
+use Prim.Native.Nat.{◌+◌}
 use Rattle.integers.specs.Vectors.{«at»}
-use Rattle.rounding.specs.declared.half.Scan.{Scan}
-use Rattle.rounding.proofs.Laws.Scans.{scan-light}
-use Rattle.rounding.specs.Pass.{Light, seen, scanned}
+use Rattle.rounding.specs.Pass.{Fair, scanned_from}
+use Rattle.rounding.specs.Rounding.{key}
+use Rattle.rounding.proofs.Laws.Passes.{entry-is, entry-small, scan-fair, seen_next}
 use Rattle.rounding.proofs.half.scanned.Goals as goal
-use Rattle.rounding.proofs.half.scanned.Goals.{In-loop-i, Start}
-
-module _ (b : Start) where
-  abbrev f : List ℤ
-  f = b.args.f.now
-
-  abbrev a : List ℤ
-  a = b.args.a.now
-
-  ff : (i : ℕ) → SFits w64 («at» f i)
-  ff i = fits-abs _ (omega (arith, b.requires.0.small i))
-
-  fa : (i : ℕ) → SFits w64 («at» a i)
-  fa i = fits-abs _ (omega (arith, b.requires.1.small i))
-
-module _ (l : In-loop-i) where
-  abbrev start : Start
-  start = l.before.before.before.before
-
-  abbrev i : ℕ
-  i = l.before.loop-i.i
-
-  is : l.before.loop-i.c ≡ scanned start.args.s i (f start) (a start)
-  is = (simp (to_z-of_z, start.ranges.s) at l.before.loop-i.invariant).1
-
-  light : Light l.before.loop-i.c
-  light = subst Light (sym is) (scan-light start.args.s (f start) (a start) start.requires.2 start.requires.0.small start.requires.1.small i l.before.loop-i.invariant.0)
 
 pub key-k-requires : goal.key-k-requires
-key-k-requires c = let b = c.before in simp (to_z-of_z, fa b 0) (b.requires.1.small 0, omega arith)
+key-k-requires g c = let t = g.T.Number in (omega (arith, g.met.T.Number.room_law.sums, entry-small t.value t.step c.args.a.now c.requires.1 c.index-a-from.result c.args.from c.requires.3), c.requires.3)
 
-pub loop-i-init : goal.loop-i-init
-unfolding scanned
-loop-i-init c = let b = c.before.before in (omega arith, ap (λ (k : ℕ). record { most = k; least = k; keys = 0; sum = pos 0; even = pos 0; odd = pos 0 }) (simp (to_z-of_z, fa b 0) at c.key-k.ensures))
+pub loop-j-init : goal.loop-j-init
+unfolding scanned_from
+loop-j-init g c = let t = g.T.Number in let i = c.args.from in
+    let e : g.T.Key.Count.count c.key-k.result ≡ key i («at» (map t.value c.args.a.now) i) = c.key-k.ensures ∙ ap (key i) (entry-is t.value t.step c.args.a.now c.requires.1 c.index-a-from.result i c.requires.3) in cc
 
 pub seen-c-requires : goal.seen-c-requires
-seen-c-requires c = let l = c.before.before in let b = start l in simp (to_z-of_z, ff b (i l), fa b (i l), b.ranges.s) (light l, b.requires.0.small (i l), b.requires.1.small (i l), b.requires.2, omega arith)
+seen-c-requires g c = let t = g.T.Number in let i = c.args.from + c.loop-j.j in let f = c.args.f.now in let a = c.args.a.now in (
+  subst (Fair t.step t.whole) (sym c.loop-j.invariant) (scan-fair t.step t.whole (t.value c.args.s) c.requires.2.most t.step (omega arith) (map t.value f) (map t.value a) c.requires.0.small c.requires.1.small c.args.from c.requires.3 c.loop-j.j (omega arith)),
+  entry-small t.value t.whole f c.requires.0 c.index-f-i.result i (omega arith),
+  entry-small t.value t.step a c.requires.1 c.index-a-i.result i (omega arith),
+  c.requires.2,
+  omega arith,
+)
 
-pub loop-i-preserved : goal.loop-i-preserved
-unfolding scanned
-loop-i-preserved c = let l = c.before.before.before in let b = start l in let s : ℤ = b.args.s in
-    let e : c.seen-c.result ≡ seen s l.before.loop-i.c («at» (f b) (i l)) («at» (a b) (i l)) (i l) = simp (to_z-of_z, ff b (i l), fa b (i l), b.ranges.s) at c.seen-c.ensures in
-    (omega arith, simp (to_z-of_z, b.ranges.s) (rw (add-one (i l)) (e ∙ ap (λ (c : Scan). seen s c («at» (f b) (i l)) («at» (a b) (i l)) (i l)) (is l))))
-
-pub returns : goal.returns
-returns c = let l = c.before in let b = l.before.before.before in
-    subst (λ (n : ℕ). l.loop-i.c ≡ scanned b.args.s n (f b) (a b)) (omega arith) (simp (to_z-of_z, b.ranges.s) at l.loop-i.invariant).1
+pub loop-j-preserved : goal.loop-j-preserved
+loop-j-preserved g c = let t = g.T.Number in let j = c.loop-j.j in let i = c.args.from + j in let f = c.args.f.now in let a = c.args.a.now in
+    seen_next (t.value c.args.s) c.args.from j (map t.value f) (map t.value a) c.loop-j.invariant (entry-is t.value t.whole f c.requires.0 c.index-f-i.result i (omega arith)) (entry-is t.value t.step a c.requires.1 c.index-a-i.result i (omega arith)) c.seen-c.ensures

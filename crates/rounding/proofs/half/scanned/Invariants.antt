@@ -1,11 +1,8 @@
 -- `scanned` sees one entry more in each turn.
 use mathlib.Core.Path.{◌≡◌}
-use Prim.Native.Nat.{◌-◌, ◌≤◌}
-use Rattle.rounding.specs.Pass.{scanned}
+use mathlib.Core.List.{map}
+use Rattle.rounding.specs.Pass.{scan_of, scanned_from}
 use Rattle.rounding.proofs.half.scanned.Given as goal
 
-abbrev pub invariant-loop-i : goal.invariant-loop-i
-invariant-loop-i l = (l.i ≤ 8) × (l.c ≡ scanned l.s l.i l.f l.a)
-
-abbrev pub decreases-loop-i : goal.decreases-loop-i
-decreases-loop-i l = 8 - l.i
+abbrev pub invariant-loop-j : goal.invariant-loop-j
+invariant-loop-j g l = let t = g.T.Number in scan_of g.T.Key.Count.count t.value l.c ≡ scanned_from (t.value l.s) l.from l.j (map t.value l.f) (map t.value l.a)

@@ -1,6 +1,6 @@
 -- `spread` fills its result by twice each rounding and p times the way on.
 use mathlib.Core.List.{List}
-use Prim.Native.Nat.{ℕ, ◌-◌}
+use Prim.Native.Nat.{ℕ}
 use lib.IntN.{ℤ, pos, ◌+ℤ◌, ◌*ℤ◌}
 use Rattle.integers.specs.Laws.Loops.{Filled}
 use Rattle.integers.specs.Vectors.{«at», range}
@@ -13,6 +13,3 @@ wide p f a i = pos 2 *ℤ «at» f i +ℤ p *ℤ sign («at» a i)
 
 abbrev pub invariant-loop-i : goal.invariant-loop-i
 invariant-loop-i l = Filled (wide l.p l.f l.a) 8 (range 0 8) l.i l.e
-
-abbrev pub decreases-loop-i : goal.decreases-loop-i
-decreases-loop-i l = 8 - l.i

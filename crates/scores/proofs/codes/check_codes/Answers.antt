@@ -1,13 +1,13 @@
 -- `check_codes` checks the first record, and the second with the first one's K.
+use Rattle.std.proofs.Common.{rules}
+use Rattle.std.specs.Prelude.{Err, Ok}
 use mathlib.Core.Path.{◌≡◌, sym, ◌∙◌, ap}
 use mathlib.Core.List.{List, [], ◌∷◌}
 use Prim.Native.Nat.{ℕ}
 use Rattle.records.specs.Eight.Codes.{blocks_in}
-use Rattle.refusals.specs.declared.Verdict.{Verdict}
-use Rattle.refusals.specs.declared.Verdict.TheVariants.{Accepted}
 use Rattle.refusals.specs.Laws.Verdicts.{first-last}
 use Rattle.refusals.specs.Limits.{blocks_most}
-use Rattle.refusals.specs.Verdicts.{first_refusal}
+use Rattle.refusals.specs.Verdicts.{first_refusal, Verdict}
 use Rattle.scores.specs.Eight.Asked.{code-taken}
 use Rattle.scores.specs.Eight.Scores.{check_code}
 use Rattle.scores.proofs.codes.check_codes.Goals as goal
@@ -28,11 +28,11 @@ module _ (c : After-check_code) where
 
 pub blocks_in-k-requires : goal.blocks_in-k-requires
 blocks_in-k-requires c = let a = c.args in
-    (c.requires, (code-taken a.steps a.q a.m 1 blocks_most 0 0 a.code.now (sym c.check_code.ensures ∙ c.in-Accepted.is)).frame.there)
+    (c.requires, (code-taken a.steps a.q a.m 1 blocks_most 0 0 a.code.now (sym c.check_code.ensures ∙ c.in_ok-check_code.was)).frame.there)
 
-pub returns-in-Refused : goal.returns-in-Refused
-returns-in-Refused c = sym (decided (goal.at.returns-in-Refused c).After-check_code _ c.in-Refused.is)
+pub returns-in_err-check_code : goal.returns-in_err-check_code
+returns-in_err-check_code c = let refused : c.from_residual.result ≡ Err c.in_err-check_code.field-0.0 = search rules in refused ∙ (sym (decided (goal.at.returns-in_err-check_code c).After-check_code _ c.in_err-check_code.was))
 
-pub returns-in-Accepted : goal.returns-in-Accepted
-returns-in-Accepted c = let k = (goal.at.returns-in-Accepted c).After-check_code in
-    c.check_code-in-Accepted.ensures ∙ ap (there k) c.blocks_in-k.ensures ∙ sym (decided k Accepted c.in-Accepted.is ∙ first-last (there k (blocks_in c.args.m (b k))))
+pub returns : goal.returns
+returns c = let k = (goal.at.returns c).After-check_code in
+    c.check_code-2.ensures ∙ ap (there k) c.blocks_in-k.ensures ∙ sym (decided k (Ok tt) c.in_ok-check_code.was ∙ first-last (there k (blocks_in c.args.m (b k))))

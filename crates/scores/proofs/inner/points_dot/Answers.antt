@@ -1,58 +1,42 @@
 -- `points_dot` adds the products up: after i turns t is the inner product of the first i entries of each, and fits 32 bits.
-use mathlib.Core.Path.{◌∙◌, ap₂}
 use mathlib.Core.List.{List}
-use Prim.Native.Nat.{ℕ, suc, ◌-◌, ◌^◌}
+use Prim.Native.Nat.{ℕ, suc, ◌-◌, ◌^◌, ◌<◌}
 use native.Mathlib.Numerals.{add-one}
 use native.Mathlib.Omega.{arith}
 use lib.IntN.{ℤ, ◌+ℤ◌, ◌*ℤ◌}
 use lib.ListN.{take}
-use lib.Seq.{take_all}
 use mir.Syntax.{w16, w32}
 use mir.Val.{SFits}
 use mir.Facts.{to_z-of_z}
 use Rattle.integers.specs.Laws.Sizes.{fits-mag, abs-mul-le}
 use Rattle.integers.specs.Laws.Sums.{dot-take-suc, dot-bound}
-use Rattle.integers.specs.Vectors.{«at», dot}
+use Rattle.integers.specs.Vectors.{«at», dot, Sized}
 use Rattle.scores.proofs.inner.points_dot.Goals as goal
-use Rattle.scores.proofs.inner.points_dot.Goals.{In-loop-i, Start}
 
-module _ (l : In-loop-i) where
-  abbrev s : Start
-  s = l.before.before
-
-  abbrev i : ℕ
-  i = l.before.loop-i.i
-
-  abbrev a : List ℤ
-  a = s.args.e.now
-
-  abbrev b : List ℤ
-  b = s.args.f.now
-
+-- the entries i, their product and the sum with it are small
+module _ (a b : List ℤ) (h : Sized 8 (2 ^ 14 - 1) a) (k : Sized 8 (2 ^ 14 - 1) b) (i : ℕ) where
   gx : SFits w16 («at» a i)
-  gx = fits-mag w16 («at» a i) (omega (arith, s.requires.0.small i))
+  gx = fits-mag w16 («at» a i) (omega (arith, h.small i))
 
   gy : SFits w16 («at» b i)
-  gy = fits-mag w16 («at» b i) (omega (arith, s.requires.1.small i))
+  gy = fits-mag w16 («at» b i) (omega (arith, k.small i))
 
   fx : SFits w32 («at» a i)
-  fx = fits-mag w32 («at» a i) (omega (arith, s.requires.0.small i))
+  fx = fits-mag w32 («at» a i) (omega (arith, h.small i))
 
   fy : SFits w32 («at» b i)
-  fy = fits-mag w32 («at» b i) (omega (arith, s.requires.1.small i))
+  fy = fits-mag w32 («at» b i) (omega (arith, k.small i))
 
   fxy : SFits w32 («at» a i *ℤ «at» b i)
-  fxy = fits-mag w32 _ (omega (arith, abs-mul-le («at» a i) («at» b i) (s.requires.0.small i) (s.requires.1.small i)))
+  fxy = fits-mag w32 _ (omega (arith, abs-mul-le («at» a i) («at» b i) (h.small i) (k.small i)))
 
-  ft : SFits w32 (dot (take i a) (take i b) +ℤ «at» a i *ℤ «at» b i)
-  ft = rw (← dot-take-suc a b i) (fits-mag w32 _ (omega (arith, dot-bound (2 ^ 14 - 1) (2 ^ 14 - 1) a b s.requires.0.small s.requires.1.small (suc i))))
+  ft : i < 8 → SFits w32 (dot (take i a) (take i b) +ℤ «at» a i *ℤ «at» b i)
+  ft l = rw (← dot-take-suc a b i) (fits-mag w32 _ (omega (arith, dot-bound (2 ^ 14 - 1) (2 ^ 14 - 1) a b h.small k.small (suc i))))
 
 pub overflow_add-t : goal.overflow_add-t
-overflow_add-t c = let l = c.before.before in simp (to_z-of_z, gx l, gy l, fx l, fy l, fxy l, l.before.loop-i.invariant.1) (ft l)
+overflow_add-t c = let a = c.args.e.now in let b = c.args.f.now in let i = c.loop-i.i in let h = c.requires.0 in let k = c.requires.1 in
+    simp (to_z-of_z, c.from.ensures, c.from-in-loop-i.ensures, gx a b h k i, gy a b h k i, fx a b h k i, fy a b h k i, fxy a b h k i, c.loop-i.invariant) (ft a b h k i c.loop-i-test.true)
 
 pub loop-i-preserved : goal.loop-i-preserved
-loop-i-preserved c = let l = c.before.before in (omega arith, simp (to_z-of_z, gx l, gy l, fx l, fy l, fxy l, ft l, l.before.loop-i.invariant.1, add-one, dot-take-suc))
-
-pub returns : goal.returns
-returns c = let s = c.before.before in let i = c.before.loop-i.i in
-    c.before.loop-i.invariant.1 ∙ ap₂ dot (take_all i s.args.e.now (omega (arith, s.requires.0.long))) (take_all i s.args.f.now (omega (arith, s.requires.1.long)))
+loop-i-preserved c = let a = c.args.e.now in let b = c.args.f.now in let i = c.loop-i.i in let h = c.requires.0 in let k = c.requires.1 in
+    simp (to_z-of_z, c.from.ensures, c.from-in-loop-i.ensures, gx a b h k i, gy a b h k i, fx a b h k i, fy a b h k i, fxy a b h k i, ft a b h k i c.loop-i-test.true, c.loop-i.invariant, add-one, dot-take-suc)

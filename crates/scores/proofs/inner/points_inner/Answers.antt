@@ -27,4 +27,4 @@ module _ (c : After-points_dot) where
 
 pub returns : goal.returns
 unfolding inner
-returns c = simp (to_z-of_z, fz c, fq c, gq c) (floor_div-shr (z c) 4 ∙ ap (λ (z : ℤ). floor_div z 4) c.points_dot.ensures)
+returns c = let i = (goal.at.returns c).After-points_dot in simp (to_z-of_z, c.from.ensures, fz i, fq i, gq i) (floor_div-shr (z i) 4 ∙ ap (λ (z : ℤ). floor_div z 4) c.points_dot.ensures)

@@ -1,4 +1,7 @@
 -- `pair_score` answers what is refused, and else the total over the blocks of both records, of which there are equally many.
+use Rattle.std.proofs.Common.{rules}
+use Rattle.std.specs.Prelude.{Ok}
+use Rattle.refusals.specs.Verdicts.{Verdict}
 use mathlib.Core.Path.{◌≡◌, refl, sym, ◌∙◌, ap, ap₂, subst, subst₂}
 use mathlib.Core.List.{List}
 use Prim.Native.Nat.{ℕ, ◌-◌}
@@ -11,8 +14,6 @@ use mir.Facts.{to_z-of_z}
 use Rattle.integers.specs.Laws.Loops.{rest-whole}
 use Rattle.layers.specs.Digits.{cut}
 use Rattle.records.specs.Eight.Codes.{Coder, AreBlocks, block_size, blocks_in}
-use Rattle.refusals.specs.declared.Verdict.{Verdict}
-use Rattle.refusals.specs.declared.Verdict.TheVariants.{Accepted}
 use Rattle.refusals.specs.Answers.{valued}
 use Rattle.scores.specs.Eight.Asked.{exact-blocks}
 use Rattle.scores.specs.Eight.Pair.{PairTaken, pair-taken}
@@ -54,8 +55,8 @@ module _ (c : After-check_pair) where
   value = pair_total q m steps steps' b b'
 
   -- where nothing is refused
-  module _ (e : c.check_pair.result ≡ Accepted) where
-    accepted : check_pair c.args.s steps b steps' b' ≡ Accepted
+  module _ (e : c.check_pair.result ≡ Ok tt) where
+    accepted : check_pair c.args.s steps b steps' b' ≡ Ok tt
     accepted = sym c.check_pair.ensures ∙ e
 
     taken : PairTaken c.args.s steps b steps' b'
@@ -83,28 +84,28 @@ module _ (c : After-blocks_in-k) where
   by-numbers P h = subst₂ (λ (z : ℤ) (m : ℕ). P z m c.blocks_in-k.result) (sym q-is) (sym c.layers-m.ensures) (subst (P c.args.s.q (nat_abs c.args.s.m)) (sym k-is) h)
 
 pub base-q-requires : goal.base-q-requires
-base-q-requires c = (taken (goal.at.base-q-requires c).After-check_pair c.in-Accepted.is).first.allowed
+base-q-requires c = (taken (goal.at.base-q-requires c).After-check_pair c.in_ok-check_pair.was).first.allowed
 
 pub layers-m-requires : goal.layers-m-requires
-layers-m-requires c = (taken (goal.at.layers-m-requires c).After-check_pair c.in-Accepted.is).first.allowed
+layers-m-requires c = (taken (goal.at.layers-m-requires c).After-check_pair c.in_ok-check_pair.was).first.allowed
 
 pub blocks_in-k-requires : goal.blocks_in-k-requires
-blocks_in-k-requires c = let h = taken (goal.at.blocks_in-k-requires c).After-check_pair c.in-Accepted.is in (omega (arith, c.layers-m.ensures, h.first.allowed.m-most), h.code.frame.there)
+blocks_in-k-requires c = let h = taken (goal.at.blocks_in-k-requires c).After-check_pair c.in_ok-check_pair.was in (omega (arith, c.layers-m.ensures, h.first.allowed.m-most), h.code.frame.there)
 
 pub slice_bounds-pair_body-count : goal.slice_bounds-pair_body-count
-slice_bounds-pair_body-count c = omega (arith, (taken (goal.at.slice_bounds-pair_body-count c).After-check_pair c.in-Accepted.is).code.frame.there)
+slice_bounds-pair_body-count c = omega (arith, (taken (goal.at.slice_bounds-pair_body-count c).After-check_pair c.in_ok-check_pair.was).code.frame.there)
 
 pub slice_bounds-pair_body-start : goal.slice_bounds-pair_body-start
-slice_bounds-pair_body-start c = omega (arith, (taken (goal.at.slice_bounds-pair_body-start c).After-check_pair c.in-Accepted.is).code.frame.there)
+slice_bounds-pair_body-start c = omega (arith, (taken (goal.at.slice_bounds-pair_body-start c).After-check_pair c.in_ok-check_pair.was).code.frame.there)
 
-pub slice_bounds-pair_body-count-in-Accepted : goal.slice_bounds-pair_body-count-in-Accepted
-slice_bounds-pair_body-count-in-Accepted c = omega (arith, (taken (goal.at.slice_bounds-pair_body-count-in-Accepted c).After-check_pair c.in-Accepted.is).other.frame.there)
+pub slice_bounds-pair_body-count-2 : goal.slice_bounds-pair_body-count-2
+slice_bounds-pair_body-count-2 c = omega (arith, (taken (goal.at.slice_bounds-pair_body-count-2 c).After-check_pair c.in_ok-check_pair.was).other.frame.there)
 
-pub slice_bounds-pair_body-start-in-Accepted : goal.slice_bounds-pair_body-start-in-Accepted
-slice_bounds-pair_body-start-in-Accepted c = omega (arith, (taken (goal.at.slice_bounds-pair_body-start-in-Accepted c).After-check_pair c.in-Accepted.is).other.frame.there)
+pub slice_bounds-pair_body-start-2 : goal.slice_bounds-pair_body-start-2
+slice_bounds-pair_body-start-2 c = omega (arith, (taken (goal.at.slice_bounds-pair_body-start-2 c).After-check_pair c.in_ok-check_pair.was).other.frame.there)
 
 pub pair_body-requires : goal.pair_body-requires
-pair_body-requires c = let n = (goal.at.pair_body-requires c).After-blocks_in-k in let a = (goal.at.pair_body-requires c).After-check_pair in let e = c.in-Accepted.is in let h = taken a e in (
+pair_body-requires c = let n = (goal.at.pair_body-requires c).After-blocks_in-k in let a = (goal.at.pair_body-requires c).After-check_pair in let e = c.in_ok-check_pair.was in let h = taken a e in (
   by-numbers n (λ z m k. Coder z m (steps a)) h.first.coder,
   by-numbers n (λ z m k. Coder z m (steps' a)) h.second.coder,
   by-numbers n (λ z m k. AreBlocks (length (steps a)) (nat_abs z) m k (lent a (b a))) (subst (AreBlocks (length (steps a)) (q a) (m a) (K a)) (sym (rest-whole 4 (b a))) h.code.blocks),
@@ -113,17 +114,17 @@ pair_body-requires c = let n = (goal.at.pair_body-requires c).After-blocks_in-k 
   omega (arith, k-is n, h.code.frame.whole.few),
 )
 
-pub returns-in-Refused : goal.returns-in-Refused
+pub returns-in_err-check_pair : goal.returns-in_err-check_pair
 unfolding Rattle.scores.specs.Scores.pair_score
-returns-in-Refused c = let a = (goal.at.returns-in-Refused c).After-check_pair in record { answer = c.refused.ensures ∙ ap (λ (v : Verdict). valued v (value a)) (sym c.in-Refused.is ∙ a.check_pair.ensures) }
+returns-in_err-check_pair c = let a = (goal.at.returns-in_err-check_pair c).After-check_pair in record { answer = (search rules) ∙ ap (λ (v : Verdict). valued v (value a)) (sym c.in_err-check_pair.was ∙ a.check_pair.ensures) }
 
-pub returns-in-Accepted : goal.returns-in-Accepted
+pub returns : goal.returns
 unfolding Rattle.scores.specs.Scores.pair_score Rattle.scores.specs.Scores.pair_total
-returns-in-Accepted c = let n = (goal.at.returns-in-Accepted c).After-blocks_in-k in let a = (goal.at.returns-in-Accepted c).After-check_pair in let e = c.in-Accepted.is in
+returns c = let n = (goal.at.returns c).After-blocks_in-k in let a = (goal.at.returns c).After-check_pair in let e = c.in_ok-check_pair.was in
     let f : SFits w64 c.pair_body.result = record { sfits = c.pair_body.type_inv } in
     let same : c.pair_body.result ≡ value a =
     c.pair_body.ensures
     ∙ sym (by-numbers n (λ x y k. sum a c.args.s.q (m a) (K a) (K a) (lent a (b a)) (lent a (b' a)) ≡ sum a x y k k (lent a (b a)) (lent a (b' a))) refl)
     ∙ ap₂ (sum a c.args.s.q (m a) (K a) (K a)) (rest-whole 4 (b a)) (rest-whole 4 (b' a))
     ∙ ap (λ (k : ℕ). sum a c.args.s.q (m a) (K a) k (drop 4 (b a)) (drop 4 (b' a))) (sym (count a e)) in
-    record { answer = ap (valued Accepted) (to_z-of_z f ∙ same) ∙ ap (λ (v : Verdict). valued v (value a)) (sym (accepted a e)) }
+    record { answer = ap (valued (Ok tt)) (to_z-of_z f ∙ same) ∙ ap (λ (v : Verdict). valued v (value a)) (sym (accepted a e)) }

@@ -1,7 +1,7 @@
 -- `table_total` has the points made, then adds block after block: after i turns z is the total of the first i, which stays small.
 use mathlib.Core.Path.{◌≡◌, sym, ◌∙◌, ap, ap₂, subst}
 use mathlib.Core.List.{List, []}
-use Prim.Native.Nat.{ℕ, ◌+◌, ◌*◌, ◌-◌, ◌^◌, ◌<◌, ◌≤◌}
+use Prim.Native.Nat.{ℕ, ◌+◌, ◌*◌, ◌^◌, ◌<◌, ◌≤◌}
 use native.Mathlib.Omega.{arith}
 use lib.IntN.{ℤ, nat_abs, ◌+ℤ◌, ◌*ℤ◌}
 use lib.ListN.{get_or, take, drop}
@@ -18,10 +18,10 @@ use Rattle.scores.specs.Laws.Sizes.{block-scored, block_query-most}
 use Rattle.scores.specs.Laws.Totals.{parts_more, parts-small}
 use Rattle.scores.specs.Eight.Scores.{Scored, total, block_query}
 use Rattle.scores.proofs.query.table_total.Goals as goal
-use Rattle.scores.proofs.query.table_total.Goals.{In-loop-i}
+use Rattle.scores.proofs.query.table_total.Goals.{After-part}
 
 -- block i
-module _ (c : In-loop-i) where
+module _ (c : After-part) where
   abbrev q : ℕ
   q = nat_abs c.args.q
 
@@ -43,9 +43,6 @@ module _ (c : In-loop-i) where
   abbrev i : ℕ
   i = c.loop-i.i
 
-  abbrev n : ℕ
-  n = c.block_size-n.result
-
   abbrev f : List ℤ → List ℕ → ℤ
   f = block_query q m steps
 
@@ -53,10 +50,7 @@ module _ (c : In-loop-i) where
   sum j = total f (cut 8 j X) (cut (block_size m) j body)
 
   sum_is : to_z w64 c.loop-i.z-bits ≡ sum i
-  sum_is = simp (to_z-of_z, c.ranges.q) at c.loop-i.invariant.1
-
-  n-is : n ≡ block_size m
-  n-is = c.block_size-n.ensures
+  sum_is = simp (to_z-of_z, c.ranges.q) at c.loop-i.invariant
 
   abbrev part : ℕ → List ℤ
   part j = take 8 (drop (8 * j) X)
@@ -66,22 +60,19 @@ module _ (c : In-loop-i) where
 
   -- both as they are lent
   abbrev lent : List ℕ
-  lent = take (n * i + n - n * i) (drop (n * i) body)
+  lent = c.part-b.result.now
 
   abbrev taken : List ℤ
-  taken = take (8 * i + 8 - 8 * i) (drop (8 * i) X)
+  taken = c.part.result.now
 
   block-is : lent ≡ block i
-  block-is = let whole : n * i + n - n * i ≡ n = omega arith in ap₂ (λ (j n : ℕ). take j (drop (n * i) body)) (whole ∙ n-is) n-is
-
-  part-is : taken ≡ part i
-  part-is = let whole : 8 * i + 8 - 8 * i ≡ 8 = omega arith in ap (λ (j : ℕ). take j (drop (8 * i) X)) whole
+  block-is = c.part-b.ensures ∙ ap (λ (n : ℕ). take n (drop (n * i) body)) c.block_size-n.ensures
 
   part-sized : (j : ℕ) → j < k → Sized 8 (2 ^ 24) (part j)
   part-sized j h = sized-part 8 k (2 ^ 24) X c.requires.2 j h
 
   taken-sized : Sized 8 (2 ^ 24) taken
-  taken-sized = subst (Sized 8 (2 ^ 24)) (sym part-is) (part-sized i c.loop-i-test.true)
+  taken-sized = subst (Sized 8 (2 ^ 24)) (sym c.part.ensures) (part-sized i c.loop-i-test.true)
 
   -- the points, in their rows
   abbrev rows : List (List ℤ)
@@ -105,7 +96,7 @@ module _ (c : In-loop-i) where
   module _ (y : ℤ) (y-is : y ≡ step_of steps lent *ℤ dot taken (get_or rows i [])) where
     value-is : y ≡ f (part i) (block i)
     unfolding Rattle.scores.specs.Scores.block_query
-    value-is = y-is ∙ ap₂ ◌*ℤ◌ (ap (step_of steps) block-is) (ap₂ dot part-is row_is)
+    value-is = y-is ∙ ap₂ ◌*ℤ◌ (ap (step_of steps) block-is) (ap₂ dot c.part.ensures row_is)
 
     more-is : sum i +ℤ y ≡ sum (i + 1)
     more-is = ap (λ (y : ℤ). sum i +ℤ y) value-is ∙ sym (parts_more f 8 (block_size m) X body i)
@@ -114,26 +105,17 @@ module _ (c : In-loop-i) where
     more-fits = rw more-is (fits-abs _ (omega (arith, sum-small (i + 1) (omega (arith, c.loop-i-test.true)), c.requires.4, c.loop-i-test.true)))
 
 pub block_query-z-requires : goal.block_query-z-requires
-block_query-z-requires c = let b = (goal.at.block_query-z-requires c).In-loop-i in (taken-sized b, scored b)
+block_query-z-requires c = let b = (goal.at.block_query-z-requires c).After-part in (taken-sized b, scored b)
 
 pub overflow_add-z : goal.overflow_add-z
 overflow_add-z c =
-    let b = (goal.at.overflow_add-z c).In-loop-i in
+    let b = (goal.at.overflow_add-z c).After-part in
     let y-fits : SFits w64 c.block_query-z.result = record { sfits = c.block_query-z.type_inv } in
     simp (to_z-of_z, y-fits, sum_is b) (more-fits b _ c.block_query-z.ensures)
 
 pub loop-i-preserved : goal.loop-i-preserved
 loop-i-preserved c =
-    let b = (goal.at.loop-i-preserved c).In-loop-i in
+    let b = (goal.at.loop-i-preserved c).After-part in
     let y-fits : SFits w64 c.block_query-z.result = record { sfits = c.block_query-z.type_inv } in
     let fits : SFits w64 (sum b (i b) +ℤ c.block_query-z.result) = more-fits b _ c.block_query-z.ensures in
-    (omega (arith, c.loop-i-test.true), simp (to_z-of_z, c.ranges.q, y-fits, sum_is b, fits) (more-is b _ c.block_query-z.ensures))
-
-pub returns : goal.returns
-returns c =
-    let sum : ℕ → ℤ = λ j. total (block_query (nat_abs c.args.q) c.args.m c.args.steps.now) (cut 8 j c.args.x.now) (cut (block_size c.args.m) j c.args.body.now) in
-    let n : c.loop-i.i ≡ c.args.k = omega (arith, c.loop-i.invariant.0, c.loop-i-test.false) in
-    record {
-      answer = (simp (to_z-of_z, c.ranges.q) at c.loop-i.invariant.1) ∙ ap sum n;
-      room = simp (to_z-of_z, c.ranges.q) at c.whole_points.ensures;
-    }
+    simp (to_z-of_z, c.ranges.q, y-fits, sum_is b, fits) (more-is b _ c.block_query-z.ensures)

@@ -7,7 +7,7 @@ use mir.Syntax.{w16}
 use mir.Val.{SFits}
 use mir.Facts.{to_z-of_z}
 use Rattle.integers.specs.Laws.Sizes.{fits-mag}
-use Rattle.columns.specs.declared.narrow.Choice as choices
+use Rattle.rounding.specs.Pass as choices
 use Rattle.columns.specs.Narrow.{wide, brief}
 use Rattle.rounding.specs.Pass.{chosen}
 use Rattle.slices.specs.Laws.Codes.{Coded, coded-below, chosen-coded}

@@ -1,6 +1,5 @@
 -- `fill_lows` counts the low digits up: after t turns the first t columns hold what the passes over their roundings see, and the first t lists what is left.
 use mathlib.Core.Path.{◌≡◌}
-use Prim.Native.Nat.{◌-◌, ◌≤◌}
 use lib.IntN.{nat_abs}
 use lib.ListN.{length}
 use Rattle.layers.specs.Digits.{digits_of}
@@ -8,7 +7,4 @@ use Rattle.slices.specs.Lanes.{Lows}
 use Rattle.slices.proofs.choices.fill_lows.Given as goal
 
 abbrev pub invariant-loop-t : goal.invariant-loop-t
-invariant-loop-t l = (l.t ≤ l.n) × (l.ds ≡ digits_of (nat_abs l.q) 4 l.t) × (length l.f ≡ 8) × (length l.a ≡ 8) × Lows l.q l.last l.t l.lanes l.lows
-
-abbrev pub decreases-loop-t : goal.decreases-loop-t
-decreases-loop-t l = l.n - l.t
+invariant-loop-t l = (l.ds ≡ digits_of (nat_abs l.q) 4 l.t) × (length l.f ≡ 8) × (length l.a ≡ 8) × Lows l.q l.last l.t l.lanes l.lows

@@ -7,7 +7,7 @@ use mir.Val.{SFits}
 use mir.Facts.{to_z-of_z}
 use Rattle.integers.specs.Laws.Sizes.{fits-mag}
 use Rattle.columns.specs.Narrow.{wide}
-use Rattle.rounding.specs.declared.half.Scan.{Scan}
+use Rattle.rounding.specs.Pass.{Scan}
 use Rattle.slices.proofs.choices.lane_of.Goals as goal
 use Rattle.slices.proofs.choices.lane_of.Goals.{Start}
 

@@ -1,5 +1,5 @@
 -- `put_lane` goes down the rows: after j turns the first j have their entry.
-use Rattle.std.proofs.Common.{arith, rules}
+use Rattle.std.proofs.Common.{rules}
 use mir.Syntax.{w16}
 use mir.Val.{SFits}
 use mir.Facts.{to_z-of_z}
@@ -11,5 +11,5 @@ pub loop-j-preserved : goal.loop-j-preserved
 loop-j-preserved c =
     let a = c.args in
     let fx : SFits w16 («at» a.l.now c.loop-j.j) = search rules in
-    let more = putting-more a.t c.requires.1 a.l.now c.requires.2 a.lanes.now c.loop-j.j c.loop-j.lanes c.loop-j.invariant.1 c.loop-j-test.true in
-    simp (to_z-of_z, fx) (omega (arith, c.loop-j-test.true), more)
+    let more = putting-more a.t c.requires.1 a.l.now c.requires.2 a.lanes.now c.loop-j.j c.loop-j.lanes c.loop-j.invariant c.loop-j-test.true in
+    simp (to_z-of_z, fx) more

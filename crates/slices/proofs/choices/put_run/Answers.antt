@@ -8,7 +8,7 @@ use lib.IntN.{ℤ}
 use lib.ListN.{length, take, drop, length-take, length-drop}
 use mir.Facts.{to_z-of_z}
 use Rattle.columns.specs.Narrow.{wide}
-use Rattle.rounding.specs.declared.half.Scan.{Scan}
+use Rattle.rounding.specs.Pass.{Scan}
 use Rattle.slices.specs.Lanes.{Run, RunPut}
 use Rattle.slices.specs.Laws.Choices.{run-put}
 use Rattle.slices.proofs.choices.put_run.Goals as goal

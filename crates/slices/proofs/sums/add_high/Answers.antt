@@ -30,9 +30,8 @@ module _ (Z : List ℤ) (z : Sized 48 (2 ^ 27) Z) (e o : ℤ) (he : nat_abs e �
   abbrev second : ℕ → ℤ
   second c = «at» Z (2 * c + 1) +ℤ o
 
-  more : Paired first second k y → (k + 1 ≤ 24) × Sized 48 (2 ^ 30) (set (set y (2 * k) (first k)) (2 * k + 1) (second k)) × Paired first second (k + 1) (set (set y (2 * k) (first k)) (2 * k + 1) (second k))
+  more : Paired first second k y → Sized 48 (2 ^ 30) (set (set y (2 * k) (first k)) (2 * k + 1) (second k)) × Paired first second (k + 1) (set (set y (2 * k) (first k)) (2 * k + 1) (second k))
   more p = (
-    omega arith,
     sized_set 48 (2 ^ 30) _ (sized_set 48 (2 ^ 30) y s (2 ^ 30) (omega arith) (2 * k) (first k) (small Z z e he (2 * k))) (2 ^ 30) (omega arith) (2 * k + 1) (second k) (small Z z o ho (2 * k + 1)),
     paired-more first second k y p (omega (arith, s.long)) (first k) (second k) refl refl,
   )
@@ -44,6 +43,6 @@ loop-c-preserved c =
     let k = c.loop-c.c in
     let fe = c.ranges.even in
     let fo = c.ranges.odd in
-    let p = simp (to_z-of_z, fe, fo) at c.loop-c.invariant.2 in
+    let p = simp (to_z-of_z, fe, fo) at c.loop-c.invariant.1 in
     simp (to_z-of_z, fe, fo, fz Z z c.args.even c.requires.1 (2 * k), fz Z z c.args.odd c.requires.2 (2 * k + 1), fits Z z c.args.even c.requires.1 (2 * k), fits Z z c.args.odd c.requires.2 (2 * k + 1))
-    (more Z z c.args.even c.args.odd c.requires.1 c.requires.2 k c.loop-c-test.true c.loop-c.y c.loop-c.invariant.1 p)
+    (more Z z c.args.even c.args.odd c.requires.1 c.requires.2 k c.loop-c-test.true c.loop-c.y c.loop-c.invariant.0 p)

@@ -24,7 +24,7 @@ loop-t-preserved c =
     let f2 : SFits w32 second = fits-mag w32 second (omega (arith, r.sums-sized.small choice)) in
     let fs : SFits w32 (first +ℤ second) = fits-mag w32 (first +ℤ second) (omega (arith, abs-add first second, r.pairs-sized.small (2 * t + choice % 2), r.sums-sized.small choice)) in
     let value : ℕ → ℤ = run_at a.sums.now a.y.now a.choices.now in
-    simp (to_z-of_z, f1, f2, fs) (filled_more value n (range 0 n) (range-long 0 n) 0 (value t) (ap value (sym (range-entry n t t<))) t< c.loop-t.invariant)
+    rw c.from-c.ensures (simp (to_z-of_z, f1, f2, fs) (filled_more value n (range 0 n) (range-long 0 n) 0 (value t) (ap value (sym (range-entry n t t<))) t< c.loop-t.invariant))
 
 pub returns : goal.returns
 returns c = let a = c.args in let n = length a.run.now in

@@ -1,5 +1,4 @@
 -- `fill_run` fills the entries one by one: after t turns the first t are right.
-use Prim.Native.Nat.{◌-◌}
 use lib.ListN.{length}
 use Rattle.integers.specs.Vectors.{range}
 use Rattle.integers.specs.Laws.Loops.{Filled}
@@ -8,6 +7,3 @@ use Rattle.slices.proofs.sums.fill_run.Given as goal
 
 abbrev pub invariant-loop-t : goal.invariant-loop-t
 invariant-loop-t l = Filled (run_at l.sums l.y l.choices) (length l.initial.run) (range 0 (length l.initial.run)) l.t l.run
-
-abbrev pub decreases-loop-t : goal.decreases-loop-t
-decreases-loop-t l = length l.initial.run - l.t

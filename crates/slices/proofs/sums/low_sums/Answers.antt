@@ -35,11 +35,11 @@ loop-j-preserved c =
     let few = c.requires.4 in
     let x = c.requires.0 in
     let row = c.requires.2 j lt in
-    let even = c.even_sum.result in
-    let odd = c.odd_sum.result in
-    let even_is : even ≡ even_at c.args.x.now c.args.lows.now j = c.even_sum.ensures in
-    let odd_is : odd ≡ odd_at c.args.s c.args.x.now c.args.lows.now j = simp (to_z-of_z, fs) at c.odd_sum.ensures in
+    let even = c.half_sums-even.result.0 in
+    let odd = c.half_sums-even.result.1 in
+    let even_is : even ≡ even_at c.args.x.now c.args.lows.now j = c.half_sums-even.ensures.even in
+    let odd_is : odd ≡ odd_at c.args.s c.args.x.now c.args.lows.now j = simp (to_z-of_z, fs) at c.half_sums-even.ensures.odd in
     let f1 : SFits w32 even = fits-mag w32 even (rw even_is (omega (arith, even-small c.args.x.now c.args.lows.now c.args.s j x row few))) in
     let f2 : SFits w32 odd = fits-mag w32 odd (rw odd_is (omega (arith, odd-small c.args.x.now c.args.lows.now c.args.s j x row few))) in
-    let m = more c.args.x.now c.args.lows.now c.args.s j x row few c.loop-j.sums c.loop-j.invariant.1 (simp (to_z-of_z, fs) at c.loop-j.invariant.2) even odd even_is odd_is (omega (arith, c.requires.5)) in
-    simp (to_z-of_z, fs, f1, f2) (omega arith, m.0, m.1)
+    let m = more c.args.x.now c.args.lows.now c.args.s j x row few c.loop-j.sums c.loop-j.invariant.0 (simp (to_z-of_z, fs) at c.loop-j.invariant.1) even odd even_is odd_is (omega (arith, c.requires.5)) in
+    simp (to_z-of_z, fs, f1, f2) (m.0, m.1)

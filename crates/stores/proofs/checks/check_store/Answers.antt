@@ -3,9 +3,8 @@ use Rattle.std.proofs.Common.{◌≡◌, sym, ◌∙◌, ap, Bool, true, false, 
 use borrow.Author.Tests.{lt-ltb, le-ltb}
 use Rattle.records.specs.Eight.Codes.{code_length}
 use Rattle.refusals.specs.declared.Refusal.TheVariants.{EmptyStore}
-use Rattle.refusals.specs.declared.Verdict.{Verdict}
 use Rattle.refusals.specs.Laws.Verdicts.{first-last}
-use Rattle.refusals.specs.Verdicts.{unless, first_refusal}
+use Rattle.refusals.specs.Verdicts.{unless, first_refusal, Verdict}
 use Rattle.stores.specs.Stores.{pieces, check_records, check_store}
 use Rattle.stores.proofs.checks.check_store.Goals as goal
 

@@ -62,19 +62,18 @@ record_total-requires c = let a = c.args in
 
 pub record_total-z-requires : goal.record_total-z-requires
 record_total-z-requires c = let a = c.args in
-    simp (to_z-of_z, c.ranges.q) (c.requires.0, c.requires.1, c.requires.2, c.requires.3, record-taken (nat_abs a.q) a.m a.k a.steps.now a.store.now c.requires.4 c.code_length-n.result c.code_length-n.ensures c.loop-i.i c.loop-i-test.true, c.requires.5, c.loop-i.invariant.3)
+    simp (to_z-of_z, c.ranges.q) (c.requires.0, c.requires.1, c.requires.2, c.requires.3, record-taken (nat_abs a.q) a.m a.k a.steps.now a.store.now c.requires.4 c.code_length-n.result c.code_length-n.ensures c.loop-i.i c.loop-i-test.true, c.requires.5, c.loop-i.invariant.1)
 
 pub loop-i-preserved : goal.loop-i-preserved
 loop-i-preserved c = let a = c.args in let n : ℕ = c.code_length-n.result in let f : List ℕ → ℤ = query_total (nat_abs a.q) a.m a.steps.now a.x.now in
     let y : ℤ = c.record_total-z.result in let y-fits : SFits w64 y = record { sfits = c.record_total-z.type_inv } in
     simp (to_z-of_z, c.ranges.q) (
-      omega arith,
-      omega arith,
-      scored f n c.loop-i.i a.store.now _ c.loop-i.best c.better-best.result y (to_z w64 (of_z w64 y)) c.loop-i.invariant.0 (simp (to_z-of_z, c.ranges.q) at c.loop-i.invariant.2) (to_z-of_z y-fits)
+      scored f n c.loop-i.i a.store.now _ c.loop-i.best c.better-best.result y (to_z w64 (of_z w64 y)) (omega arith) (simp (to_z-of_z, c.ranges.q) at c.loop-i.invariant.0) (to_z-of_z y-fits)
           (simp (to_z-of_z, c.ranges.q) at c.record_total-z.ensures.answer) (record_is (nat_abs a.q) a.m a.k a.steps.now a.store.now c.requires.4 n c.code_length-n.ensures c.loop-i.i) c.better-best.ensures,
       c.record_total-z.ensures.room,
     )
 
 pub returns : goal.returns
-returns c = let a = c.args in
-    (simp (to_z-of_z, c.ranges.q) at c.loop-i.invariant.2) ∙ all-of (nat_abs a.q) a.m a.k a.steps.now a.store.now c.requires.4 c.code_length-n.result c.code_length-n.ensures a.x.now c.loop-i.i (omega arith)
+returns c = let a = c.args in let n : ℕ = c.code_length-n.result in
+    (simp (to_z-of_z, c.ranges.q) at c.loop-i.invariant.0)
+    ∙ all-of (nat_abs a.q) a.m a.k a.steps.now a.store.now c.requires.4 n c.code_length-n.ensures a.x.now c.loop-i.i (omega (arith, some (nat_abs a.q) a.m a.k a.steps.now a.store.now c.requires.4 n c.code_length-n.ensures))

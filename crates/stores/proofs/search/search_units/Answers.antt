@@ -22,7 +22,7 @@ pub best_body-requires : goal.best_body-requires
 best_body-requires c = let a = c.args in let w = whole-x a.x.now c.requires.1 in let K : ℕ = length a.x.now / 8 in
     let f : SFits w64 c.base.result = record { sfits = c.base.type_inv } in let q-is = to_z-of_z f ∙ c.base.ensures in let m-is = c.layers-m.ensures in
     let t : StoreTaken (length a.steps.now) (nat_abs a.s.q) (nat_abs a.s.m) K a.store.now =
-    store-taken (length a.steps.now) (nat_abs a.s.q) (nat_abs a.s.m) K a.store.now (sym (c.in-Accepted.ensures ∙ ap₂ (λ (q m : ℕ). check_store (length a.steps.now) q m K a.store.now) c.digit_values.ensures m-is)) in (
+    store-taken (length a.steps.now) (nat_abs a.s.q) (nat_abs a.s.m) K a.store.now (sym (c.in_ok-check_store.ensures ∙ ap₂ (λ (q m : ℕ). check_store (length a.steps.now) q m K a.store.now) c.digit_values.ensures m-is)) in (
       (λ h. absurd (omega (arith, h))),
       subst₂ (λ (z : ℤ) (m : ℕ). Coder z m a.steps.now) (sym q-is) (sym m-is) c.requires.0.coder,
       record { long = w.times; small = c.requires.1.small },

@@ -1,5 +1,6 @@
 -- `best_hour_with_table` answers what is refused before the store, and else what the core answers on the units that were taken.
-use Rattle.std.proofs.Common.{◌≡◌, refl, sym, ◌∙◌, ap, ap₂, subst, List, [], ◌∷◌, ◌++◌, ℕ, ◌-◌, ◌/◌, ◌≤◌, ℤ, nat_abs, length, take, drop, arith, length-append}
+use Rattle.std.specs.Prelude.{Err, Ok}
+use Rattle.std.proofs.Common.{rules, ◌≡◌, refl, sym, ◌∙◌, ap, ap₂, subst, List, [], ◌∷◌, ◌++◌, ℕ, ◌-◌, ◌/◌, ◌≤◌, ℤ, nat_abs, length, take, drop, arith, length-append}
 use lib.Seq.{take_at}
 use Rattle.integers.specs.Vectors.{zeros}
 use Rattle.readings.specs.Words.{word_at}
@@ -9,12 +10,10 @@ use Rattle.records.proofs.Eight.Hours.{fvecs-sound, fvecs-count, taken-all}
 use Rattle.records.specs.Eight.Vectors.{Hour, fvecs_hour, check_readings, units_taken}
 use Rattle.refusals.specs.declared.Refusal.TheVariants.{Record}
 use Rattle.refusals.specs.declared.settings.Settings.{Settings}
-use Rattle.refusals.specs.declared.Verdict.{Verdict}
-use Rattle.refusals.specs.declared.Verdict.TheVariants.{Accepted}
 use Rattle.refusals.specs.Answers.{written}
 use Rattle.refusals.specs.Laws.Verdicts.{unless-accepted}
 use Rattle.refusals.specs.Limits.{blocks_most}
-use Rattle.refusals.specs.Verdicts.{first_refusal}
+use Rattle.refusals.specs.Verdicts.{first_refusal, Verdict}
 use Rattle.tables.specs.Tables.{query_table}
 use Rattle.stores.proofs.Laws.Tabled.{before_store, AskedTaken, asked-taken, CoreTaken, core-taken, by-refused, by-is}
 use Rattle.stores.specs.Tabled.{table_asked}
@@ -33,7 +32,7 @@ module _ (s : Settings) (steps : List ℤ) (b : List ℕ) (room : ℕ) where
   checked v w e f = ap₂ (λ (v w : Verdict). first_refusal (v ∷ w ∷ [])) (sym e) (sym f)
 
   -- where nothing is refused before the readings are taken
-  module _ (e : Accepted ≡ table_asked s steps h room) where
+  module _ (e : (Ok tt) ≡ table_asked s steps h room) where
     asked : AskedTaken s steps h room
     asked = asked-taken s steps h room (sym e)
 
@@ -41,7 +40,7 @@ module _ (s : Settings) (steps : List ℤ) (b : List ℕ) (room : ℕ) where
     frame = record-framed 4 8 1 blocks_most b (unless-accepted _ (Record 0) asked.framed)
 
     -- where the readings were all taken, they stand at the front
-    module _ (f : Accepted ≡ check_readings 0 h.readings) where
+    module _ (f : (Ok tt) ≡ check_readings 0 h.readings) where
       long : length X ≡ length h.readings
       long = taken-all h.readings (sym f)
 
@@ -59,32 +58,32 @@ module _ (s : Settings) (steps : List ℤ) (b : List ℕ) (room : ℕ) where
         core = subst (CoreTaken s steps h room) (sym x-is) (core-taken s steps h room (fvecs-sound b) asked (sym f) X refl long)
 
 pub word_at-n-requires : goal.word_at-n-requires
-word_at-n-requires c = let a = c.args in (frame a.s a.steps.now a.query.now (length a.entries.now) c.in-Accepted.ensures).there
+word_at-n-requires c = let a = c.args in (frame a.s a.steps.now a.query.now (length a.entries.now) c.in_ok-check_fvecs_asked.ensures).there
 
 pub take_readings-requires : goal.take_readings-requires
-take_readings-requires c = let a = c.args in let f = frame a.s a.steps.now a.query.now (length a.entries.now) c.in-Accepted.ensures in
+take_readings-requires c = let a = c.args in let f = frame a.s a.steps.now a.query.now (length a.entries.now) c.in_ok-check_fvecs_asked.ensures in
     (c.word_at-n.ensures, omega (arith, c.word_at-n.ensures, f.complete), omega (arith, c.word_at-n.ensures, f.whole.times, f.whole.few))
 
 pub slice_bounds-search_units_by-end : goal.slice_bounds-search_units_by-end
 slice_bounds-search_units_by-end c = let a = c.args in
-    enough a.s a.steps.now a.query.now (length a.entries.now) c.in-Accepted.ensures c.in-Accepted-take_readings.ensures.answer c.take_readings.new.x c.word_at-n.result c.word_at-n.ensures c.take_readings.ensures.room
+    enough a.s a.steps.now a.query.now (length a.entries.now) c.in_ok-check_fvecs_asked.ensures c.in_ok-take_readings.ensures.answer c.take_readings.new.x c.word_at-n.result c.word_at-n.ensures c.take_readings.ensures.room
 
 pub search_units_by-requires : goal.search_units_by-requires
 search_units_by-requires c = let a = c.args in
-    core a.s a.steps.now a.query.now (length a.entries.now) c.in-Accepted.ensures c.in-Accepted-take_readings.ensures.answer c.take_readings.new.x c.word_at-n.result c.word_at-n.ensures c.take_readings.ensures.room
+    core a.s a.steps.now a.query.now (length a.entries.now) c.in_ok-check_fvecs_asked.ensures c.in_ok-take_readings.ensures.answer c.take_readings.new.x c.word_at-n.result c.word_at-n.ensures c.take_readings.ensures.room
 
-pub returns-in-Refused : goal.returns-in-Refused
-returns-in-Refused c = let a = c.args in
-    let f = by-refused a.s a.steps.now (fvecs_hour a.query.now) a.store.now a.entries.now _ (checked a.s a.steps.now a.query.now (length a.entries.now) _ _ c.in-Refused.ensures refl) in
-    record { answer = c.no_hour.ensures ∙ f.0; room = f.1 }
+pub returns-in_err-check_fvecs_asked : goal.returns-in_err-check_fvecs_asked
+returns-in_err-check_fvecs_asked c = let refused : c.from_residual.result ≡ Err c.in_err-check_fvecs_asked.field-0.0 = search rules in let a = c.args in
+    let f = by-refused a.s a.steps.now (fvecs_hour a.query.now) a.store.now a.entries.now _ (checked a.s a.steps.now a.query.now (length a.entries.now) _ _ c.in_err-check_fvecs_asked.ensures refl) in
+    record { answer = refused ∙ f.0; room = f.1 }
 
-pub returns-in-Refused-take_readings : goal.returns-in-Refused-take_readings
-returns-in-Refused-take_readings c = let a = c.args in
-    let f = by-refused a.s a.steps.now (fvecs_hour a.query.now) a.store.now a.entries.now _ (checked a.s a.steps.now a.query.now (length a.entries.now) _ _ c.in-Accepted.ensures c.in-Refused-take_readings.ensures.answer) in
-    record { answer = c.no_hour-in-Refused-take_readings.ensures ∙ f.0; room = f.1 }
+pub returns-in_err-take_readings : goal.returns-in_err-take_readings
+returns-in_err-take_readings c = let refused : c.from_residual-in_err-take_readings.result ≡ Err c.in_err-take_readings.field-0.0 = search rules in let a = c.args in
+    let f = by-refused a.s a.steps.now (fvecs_hour a.query.now) a.store.now a.entries.now _ (checked a.s a.steps.now a.query.now (length a.entries.now) _ _ c.in_ok-check_fvecs_asked.ensures c.in_err-take_readings.ensures.answer) in
+    record { answer = refused ∙ f.0; room = f.1 }
 
-pub returns-in-Accepted-take_readings : goal.returns-in-Accepted-take_readings
-returns-in-Accepted-take_readings c = let a = c.args in let room : ℕ = length a.entries.now in let e = c.in-Accepted.ensures in let g = c.in-Accepted-take_readings.ensures.answer in
+pub returns : goal.returns
+returns c = let a = c.args in let room : ℕ = length a.entries.now in let e = c.in_ok-check_fvecs_asked.ensures in let g = c.in_ok-take_readings.ensures.answer in
     let q : ℕ = nat_abs a.s.q in let m : ℕ = nat_abs a.s.m in
     let front = x-is a.s a.steps.now a.query.now room e g c.take_readings.new.x c.word_at-n.result c.word_at-n.ensures c.take_readings.ensures.room in
     let f = by-is a.s a.steps.now (fvecs_hour a.query.now) a.store.now a.entries.now (checked a.s a.steps.now a.query.now room _ _ e g) (X a.s a.steps.now a.query.now room) refl (long a.s a.steps.now a.query.now room e g) in

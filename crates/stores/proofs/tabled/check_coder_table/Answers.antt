@@ -4,4 +4,4 @@ use Rattle.records.specs.Eight.Asked.{coder-accepted}
 use Rattle.stores.proofs.tabled.check_coder_table.Goals as goal
 
 pub check_table-requires : goal.check_table-requires
-check_table-requires c = (coder-accepted c.args.s c.args.steps.now (sym c.in-Accepted.ensures)).allowed
+check_table-requires c = (coder-accepted c.args.s c.args.steps.now (sym c.in_ok-check_coder.ensures)).allowed

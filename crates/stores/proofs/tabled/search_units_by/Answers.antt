@@ -1,4 +1,6 @@
 -- `search_units_by` answers the store's refusal, and else fills the table and answers the best of the records.
+use Rattle.std.specs.Prelude.{Ok}
+use Rattle.refusals.specs.Verdicts.{Verdict}
 use Rattle.std.proofs.Common.{◌≡◌, sym, ◌∙◌, ap, ap₂, subst, List, ◌++◌, map, ℕ, ◌*◌, ◌/◌, ◌^◌, ◌≤◌, ℤ, nat_abs, length, drop, arith, w64, to_z, of_z}
 use mathlib.Core.Path.{subst₂}
 use mir.Val.{SFits}
@@ -10,8 +12,6 @@ use Rattle.records.specs.Eight.Codes.{Coder}
 use Rattle.records.specs.Eight.Vectors.{UnitsTaken}
 use Rattle.records.specs.Laws.Frames.{blocks-whole}
 use Rattle.records.specs.Frames.{Whole}
-use Rattle.refusals.specs.declared.Verdict.{Verdict}
-use Rattle.refusals.specs.declared.Verdict.TheVariants.{Accepted}
 use Rattle.refusals.specs.Answers.{written}
 use Rattle.refusals.specs.Limits.{blocks_most}
 use Rattle.tables.specs.Laws.Entries.{query_table-long}
@@ -42,7 +42,7 @@ module _ (X : List ℤ) (z q : ℤ) (e : z ≡ q) (out filled : List ℤ)
   look-up : nat_abs q ≤ query_most → LookUp (nat_abs z) X filled
   look-up most = subst (λ (z : ℤ). LookUp (nat_abs z) X filled) (sym e) (λ h. (most, (drop (part_size (nat_abs q) * (length X / 8)) out, filled_is)))
 
-  room-is : (v : Verdict) → Accepted ≡ v → filled ≡ written v (query_table (nat_abs q) X) out
+  room-is : (v : Verdict) → Ok tt ≡ v → filled ≡ written v (query_table (nat_abs q) X) out
   room-is v a = filled_is ∙ ap (λ (n : ℕ). query_table (nat_abs q) X ++ drop n out) (sym (query_table-long (nat_abs q) X)) ∙ ap (λ (v : Verdict). written v (query_table (nat_abs q) X) out) a
 
 pub check_store-requires : goal.check_store-requires
@@ -62,7 +62,7 @@ pub best_body-requires : goal.best_body-requires
 best_body-requires c = let a = c.args in let X = a.x.now in let n : ℕ = length X / 8 in
     let f : SFits w64 c.base-q.result = record { sfits = c.base-q.type_inv } in let q-is = to_z-of_z f ∙ c.base-q.ensures in let m-is = c.layers-m.ensures in
     let t : StoreTaken (length a.steps.now) (nat_abs a.s.q) (nat_abs a.s.m) n a.store.now =
-    store-taken (length a.steps.now) (nat_abs a.s.q) (nat_abs a.s.m) n a.store.now (sym (c.in-Accepted.ensures ∙ ap₂ (λ (q m : ℕ). check_store (length a.steps.now) q m n a.store.now) c.digit_values.ensures m-is)) in (
+    store-taken (length a.steps.now) (nat_abs a.s.q) (nat_abs a.s.m) n a.store.now (sym (c.in_ok-check_store.ensures ∙ ap₂ (λ (q m : ℕ). check_store (length a.steps.now) q m n a.store.now) c.digit_values.ensures m-is)) in (
       look-up X (to_z w64 (of_z w64 c.base-q.result)) a.s.q q-is a.entries.now c.fill_blocks.new.entries c.fill_blocks.ensures c.requires.2,
       subst₂ (λ (z : ℤ) (m : ℕ). Coder z m a.steps.now) (sym q-is) (sym m-is) c.requires.0.coder,
       sized X c.requires.1,
@@ -70,8 +70,8 @@ best_body-requires c = let a = c.args in let X = a.x.now in let n : ℕ = length
       (whole-x X c.requires.1).few,
     )
 
-pub returns-in-Accepted-clause-room : goal.returns-in-Accepted-clause-room
-returns-in-Accepted-clause-room c = let a = c.args in let X = a.x.now in
+pub returns-clause-room : goal.returns-clause-room
+returns-clause-room c = let a = c.args in let X = a.x.now in
     let f : SFits w64 c.base-q.result = record { sfits = c.base-q.type_inv } in
     room-is X (to_z w64 (of_z w64 c.base-q.result)) a.s.q (to_z-of_z f ∙ c.base-q.ensures) a.entries.now c.fill_blocks.new.entries c.fill_blocks.ensures _
-    (c.in-Accepted.ensures ∙ ap₂ (λ (q m : ℕ). check_store (length a.steps.now) q m (length X / 8) a.store.now) c.digit_values.ensures c.layers-m.ensures)
+    (c.in_ok-check_store.ensures ∙ ap₂ (λ (q m : ℕ). check_store (length a.steps.now) q m (length X / 8) a.store.now) c.digit_values.ensures c.layers-m.ensures)

@@ -1,4 +1,4 @@
--- `fill_row` goes up from entry 0 with the digits of its number: after j turns the first j entries are right.
+-- `fill_row` goes through the entries with the digits of each one's number: after j turns the first j entries are right.
 use Rattle.std.proofs.Common.{◌≡◌, sym, ◌∙◌, ap, ap₂, subst, List, ◌++◌, ℕ, ◌+◌, ◌-◌, ◌^◌, ◌<◌, ◌≤◌, ℤ, pos, nat_abs, length, take, drop, add-one, arith}
 use mathlib.Core.List.{append-nil}
 use lib.ListN.{set, length-set, drop_of_length-le}
@@ -58,34 +58,33 @@ module _ (ds : List ℕ) (h : IsLayer 8 2 ds) (j : ℕ) where
 
 pub points_inner-requires : goal.points_inner-requires
 points_inner-requires c =
-    let d = c.args.ds.now in let h = c.requires.1 in let j = c.loop-j.j in
-    (p-small d h j c.table_point-e.ensures c.loop-j.invariant.2 c.table_point-f.ensures, f-small d h j c.table_point-e.ensures c.loop-j.invariant.2 c.table_point-f.ensures)
+    let d = c.args.ds.now in let h = c.requires.1 in let j = c.loop-entry.entry-index in
+    (p-small d h j c.table_point-e.ensures c.loop-entry.invariant.0 c.table_point-f.ensures, f-small d h j c.table_point-e.ensures c.loop-entry.invariant.0 c.table_point-f.ensures)
 
-pub overflow_cast-row : goal.overflow_cast-row
-overflow_cast-row c =
-    let fits = y-fits c.args.ds.now c.requires.1 c.loop-j.j c.table_point-e.ensures c.loop-j.invariant.2 c.table_point-f.ensures c.points_inner.ensures in
+pub overflow_cast-entry : goal.overflow_cast-entry
+overflow_cast-entry c =
+    let fits = y-fits c.args.ds.now c.requires.1 c.loop-entry.entry-index c.table_point-e.ensures c.loop-entry.invariant.0 c.table_point-f.ensures c.points_inner.ensures in
     let wide : SFits w64 c.points_inner.result = record { sfits = c.points_inner.type_inv } in
     simp (to_z-of_z, wide) fits
 
-pub loop-j-preserved : goal.loop-j-preserved
-loop-j-preserved c =
-    let j = c.loop-j.j in
-    let inv = c.loop-j.invariant in
-    let row = c.loop-j.row in
+pub loop-entry-preserved : goal.loop-entry-preserved
+loop-entry-preserved c =
+    let j = c.loop-entry.entry-index in
+    let inv = c.loop-entry.invariant in
+    let row = c.loop-entry.row in
     let found = c.args.row.now in
     let long : length found ≡ 256 = c.requires.2 in
-    let within : j < 256 = omega (arith, c.loop-j-test.true, inv.1, long) in
-    let fits = y-fits c.args.ds.now c.requires.1 j c.table_point-e.ensures inv.2 c.table_point-f.ensures c.points_inner.ensures in
+    let within : j < 256 = omega (arith, c.loop-entry-test.true, c.loop-entry.auto.row, c.loop-entry.auto.entry-index-end, long) in
+    let fits = y-fits c.args.ds.now c.requires.1 j c.table_point-e.ensures inv.0 c.table_point-f.ensures c.points_inner.ensures in
     let wide : SFits w64 c.points_inner.result = record { sfits = c.points_inner.type_inv } in
-    let written = more c.args.ds.now c.requires.1 j c.table_point-e.ensures inv.2 c.table_point-f.ensures c.points_inner.ensures found row long within inv.3 in (
-      omega (arith, within),
-      length-set row j _ ∙ inv.1,
-      rw (add-one j) (c.count_up.ensures ∙ ap (counted_up 2) inv.2 ∙ counted_next 2 two 8 j),
+    let written = more c.args.ds.now c.requires.1 j c.table_point-e.ensures inv.0 c.table_point-f.ensures c.points_inner.ensures found row long within inv.1 in (
+      rw (add-one j) (c.count_up.ensures ∙ ap (counted_up 2) inv.0 ∙ counted_next 2 two 8 j),
       simp (to_z-of_z, wide, fits) written,
     )
 
 pub returns : goal.returns
-returns c = let e = layer_point8 2 c.args.ds.now in let j = c.loop-j.j in
-    c.loop-j.invariant.3
-    ∙ ap₂ ◌++◌ (take_all j (pair_row e) (omega (arith, pair_row-long e, c.requires.2, c.loop-j.invariant.1, c.loop-j-test.false))) (drop_of_length-le c.args.row.now {i = j} (omega (arith, c.loop-j.invariant.1, c.loop-j-test.false)))
+returns c = let e = layer_point8 2 c.args.ds.now in let j = c.loop-entry.entry-index in
+    c.loop-entry.invariant.1
+    ∙ ap₂ ◌++◌ (take_all j (pair_row e) (omega (arith, pair_row-long e, c.requires.2, c.loop-entry.auto.row, c.loop-entry.auto.entry-index-end, c.loop-entry-test.false)))
+    (drop_of_length-le c.args.row.now {i = j} (omega (arith, c.loop-entry.auto.row, c.loop-entry.auto.entry-index-end, c.loop-entry-test.false)))
     ∙ append-nil (pair_row e)

@@ -42,13 +42,12 @@ pub loop-i-preserved : goal.loop-i-preserved
 loop-i-preserved c =
     let i = c.loop-i.i in
     let inv = c.loop-i.invariant in
-    let row_is : c.fill_row.new.row ≡ pair_row (layer_at 2 i) = c.fill_row.ensures ∙ ap (λ (ds : List ℕ). pair_row (layer_point8 2 ds)) inv.2 in (
-      omega (arith, c.loop-i-test.true),
-      more-long i c.args.entries.now c.loop-i.entries c.loop-i-test.true inv.1 c.requires.1 inv.3 c.fill_row.new.row row_is,
-      rw (add-one i) (c.count_up.ensures ∙ ap (counted_up 2) inv.2 ∙ counted_next 2 two 8 i),
-      more-is i c.args.entries.now c.loop-i.entries c.loop-i-test.true inv.1 c.requires.1 inv.3 c.fill_row.new.row row_is,
+    let row_is : c.fill_row.new.row ≡ pair_row (layer_at 2 i) = c.fill_row.ensures ∙ ap (λ (ds : List ℕ). pair_row (layer_point8 2 ds)) inv.1 in (
+      more-long i c.args.entries.now c.loop-i.entries c.loop-i-test.true inv.0 c.requires.1 inv.2 c.fill_row.new.row row_is,
+      rw (add-one i) (c.count_up.ensures ∙ ap (counted_up 2) inv.1 ∙ counted_next 2 two 8 i),
+      more-is i c.args.entries.now c.loop-i.entries c.loop-i-test.true inv.0 c.requires.1 inv.2 c.fill_row.new.row row_is,
     )
 
 pub returns : goal.returns
-returns c = let found = c.args.entries.now in let e : c.loop-i.i ≡ 256 = omega (arith, c.loop-i-test.false, c.loop-i.invariant.0) in
-    c.loop-i.invariant.3 ∙ ap (λ (k : ℕ). pair_rows k ++ drop (256 * k) found) e ∙ ap (λ (f : List ℤ). f ++ drop 65536 found) rows_all
+returns c = let found = c.args.entries.now in let e : c.loop-i.i ≡ 256 = omega (arith, c.loop-i-test.false, c.loop-i.auto.i-end) in
+    c.loop-i.invariant.2 ∙ ap (λ (k : ℕ). pair_rows k ++ drop (256 * k) found) e ∙ ap (λ (f : List ℤ). f ++ drop 65536 found) rows_all

@@ -6,11 +6,10 @@ use Rattle.records.specs.Laws.Frames.{record-framed}
 use Rattle.records.proofs.Eight.Hours.{fvecs-count}
 use Rattle.records.specs.Eight.Vectors.{fvecs_hour}
 use Rattle.refusals.specs.declared.Refusal.TheVariants.{Record}
-use Rattle.refusals.specs.declared.Verdict.{Verdict}
 use Rattle.refusals.specs.declared.settings.Settings.{Settings}
 use Rattle.refusals.specs.Laws.Verdicts.{first-last}
 use Rattle.refusals.specs.Limits.{blocks_most}
-use Rattle.refusals.specs.Verdicts.{unless, first_refusal}
+use Rattle.refusals.specs.Verdicts.{unless, first_refusal, Verdict}
 use Rattle.tables.specs.Filling.{check_entries, lent_asked}
 use Rattle.tables.specs.Tables.{part_size}
 use Rattle.tables.proofs.query_table.check_fvecs_lent.Goals as goal

@@ -4,4 +4,4 @@ use Rattle.coding.specs.Laws.Asked.{checked-allowed}
 use Rattle.tables.proofs.query_table.check_q.Goals as goal
 
 pub check_table-requires : goal.check_table-requires
-check_table-requires c = checked-allowed c.args.s (sym c.in-Accepted.ensures)
+check_table-requires c = checked-allowed c.args.s (sym c.in_ok-check_settings.ensures)

@@ -1,11 +1,11 @@
 -- `check_units_query` checks the settings and q, then what is lent.
-use Rattle.std.proofs.Common.{◌≡◌, sym, ◌∙◌, List, [], ◌∷◌, ℕ, ℤ}
+use Rattle.std.specs.Prelude.{Err}
+use Rattle.std.proofs.Common.{rules, ◌≡◌, sym, ◌∙◌, List, [], ◌∷◌, ℕ, ℤ}
 use Rattle.records.specs.Eight.Vectors.{Hour, units_hour, check_readings}
-use Rattle.refusals.specs.declared.Verdict.{Verdict}
 use Rattle.refusals.specs.declared.settings.Settings.{Settings}
 use Rattle.refusals.specs.Laws.Verdicts.{first-last, first_group}
 use Rattle.refusals.specs.Settings.{check_settings}
-use Rattle.refusals.specs.Verdicts.{first_refusal}
+use Rattle.refusals.specs.Verdicts.{first_refusal, Verdict}
 use Rattle.tables.specs.Filling.{check_table, check_query_table, lent_asked}
 use Rattle.tables.proofs.Laws.Filling.{q-taken, asked_is, query-table-is}
 use Rattle.tables.specs.Tables.{query_most}
@@ -29,10 +29,10 @@ module _ (s : Settings) (x : List ℤ) (room : ℕ) where
       ∙ sym (first_group [] (v ∷ asked ∷ []) (readings ∷ [])) ∙ first_group (v ∷ []) (asked ∷ readings ∷ []) [])
 
 pub check_units_lent-requires : goal.check_units_lent-requires
-check_units_lent-requires c = q-taken c.args.s (sym c.in-Accepted.ensures)
+check_units_lent-requires c = q-taken c.args.s (sym c.in_ok-check_q.ensures)
 
-pub returns-in-Refused : goal.returns-in-Refused
-returns-in-Refused c = decided c.args.s c.args.x.now c.args.room _ c.in-Refused.ensures
+pub returns-in_err-check_q : goal.returns-in_err-check_q
+returns-in_err-check_q c = let refused : c.from_residual.result ≡ Err c.in_err-check_q.field-0.0 = search rules in refused ∙ (decided c.args.s c.args.x.now c.args.room _ c.in_err-check_q.ensures)
 
-pub returns-in-Accepted : goal.returns-in-Accepted
-returns-in-Accepted c = c.check_units_lent.ensures ∙ sym (first-last (lent c.args.s c.args.x.now c.args.room)) ∙ decided c.args.s c.args.x.now c.args.room _ c.in-Accepted.ensures
+pub returns : goal.returns
+returns c = c.check_units_lent.ensures ∙ sym (first-last (lent c.args.s c.args.x.now c.args.room)) ∙ decided c.args.s c.args.x.now c.args.room _ c.in_ok-check_q.ensures

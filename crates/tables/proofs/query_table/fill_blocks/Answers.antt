@@ -65,12 +65,12 @@ fill_slices-requires c =
     let size : ℕ = c.part_size-size.result in
     let size_is = simp (to_z-of_z, fq) at c.part_size-size.ensures in
     let less = simp (to_z-of_z, fq) at c.loop-last-test.true in
-    let slice = simp (to_z-of_z, fq, fb) at c.fill_choices.ensures in
-    let filled = simp (to_z-of_z, fq) at c.loop-last.invariant.4 in
+    let slice = simp (to_z-of_z, fq, fb) at c.fill.ensures in
+    let filled = simp (to_z-of_z, fq) at c.loop-last.invariant.3 in
     let d = c.loop-last.last in
-    let halves = c.fill_choices.new.choices in
-    let lows = c.fill_choices.new.lows in
-    let highs = c.fill_choices.new.highs in
+    let halves = c.fill.new.self.choices in
+    let lows = c.fill.new.self.lows in
+    let highs = c.fill.new.self.highs in
     let room : size * c.args.k ≤ length c.loop-last.entries = subst (λ (m : ℕ). m * c.args.k ≤ length c.loop-last.entries) (sym size_is) (omega (arith, c.requires.3, filled.long)) in
     let whole : size ≤ 65536 = omega (arith, size_is, part-most (nat_abs z) most) in
     simp (to_z-of_z, fq, fb) (
@@ -93,15 +93,15 @@ loop-last-preserved c =
     let size : ℕ = c.part_size-size.result in
     let size_is = simp (to_z-of_z, fq) at c.part_size-size.ensures in
     let less = simp (to_z-of_z, fq) at c.loop-last-test.true in
-    let slice = simp (to_z-of_z, fq, fb) at c.fill_choices.ensures in
-    let filled = simp (to_z-of_z, fq) at c.loop-last.invariant.4 in
+    let slice = simp (to_z-of_z, fq, fb) at c.fill.ensures in
+    let filled = simp (to_z-of_z, fq) at c.loop-last.invariant.3 in
     let group = simp (to_z-of_z, fq, fb) at c.fill_slices.ensures in
     let d = c.loop-last.last in
-    let halves = c.fill_choices.new.choices in
-    let lows = c.fill_choices.new.lows in
-    let highs = c.fill_choices.new.highs in
+    let halves = c.fill.new.self.choices in
+    let lows = c.fill.new.self.lows in
+    let highs = c.fill.new.self.highs in
     let more = more-is z base most size size_is d less halves lows highs slice c.args.k c.args.x.now c.args.entries.now c.loop-last.entries c.fill_slices.new.entries filled group in
-    simp (to_z-of_z, fq) (omega (arith, less), slice.choices-long, slice.lows-long, slice.highs-long, more)
+    simp (to_z-of_z, fq) (slice.choices-long, slice.lows-long, slice.highs-long, more)
 
 pub returns : goal.returns
 returns c =
@@ -110,9 +110,9 @@ returns c =
     let X = c.args.x.now in
     let found = c.args.entries.now in
     let fq = c.ranges.q in
-    let d-most = simp (to_z-of_z, fq) at c.loop-last.invariant.0 in
+    let d-most = simp (to_z-of_z, fq) at c.loop-last.auto.last-end in
     let d-least = simp (to_z-of_z, fq) at c.loop-last-test.false in
-    let filled = simp (to_z-of_z, fq) at c.loop-last.invariant.4 in
+    let filled = simp (to_z-of_z, fq) at c.loop-last.invariant.3 in
     let e : c.loop-last.last ≡ q = omega (arith, d-most, d-least) in
     let all : q ^ 7 * q ≡ part_size q = omega (arith, part-slices q) in
     filled-all q k X found c.loop-last.entries (subst (λ (i : ℕ). FilledTo q k X found i c.loop-last.entries) (ap (λ (d : ℕ). q ^ 7 * d) e ∙ all) filled) c.requires.3

@@ -1,5 +1,6 @@
 -- `fill_query_table` answers what is refused, and else what the core answers on the units that were taken.
-use Rattle.std.proofs.Common.{◌≡◌, refl, sym, ◌∙◌, ap, ap₂, subst, List, [], ◌∷◌, ◌++◌, ℕ, ◌*◌, ◌-◌, ◌/◌, ◌≤◌, ℤ, pos, nat_abs, length, take, arith, length-append}
+use Rattle.std.specs.Prelude.{Ok}
+use Rattle.std.proofs.Common.{rules, ◌≡◌, refl, sym, ◌∙◌, ap, ap₂, subst, List, [], ◌∷◌, ◌++◌, ℕ, ◌*◌, ◌-◌, ◌/◌, ◌≤◌, ℤ, pos, nat_abs, length, take, arith, length-append}
 use lib.Seq.{take_at}
 use mir.Syntax.{w64}
 use mir.Val.{SFits, to_z, of_z}
@@ -10,10 +11,8 @@ use Rattle.readings.specs.Words.{word_at}
 use Rattle.records.proofs.Eight.Hours.{fvecs-sound, fvecs-count}
 use Rattle.records.specs.Eight.Vectors.{Hour, fvecs_hour, check_readings, units_taken, UnitsTaken}
 use Rattle.refusals.specs.declared.settings.Settings.{Settings}
-use Rattle.refusals.specs.declared.Verdict.{Verdict}
-use Rattle.refusals.specs.declared.Verdict.TheVariants.{Accepted}
 use Rattle.refusals.specs.Answers.{valued, written}
-use Rattle.refusals.specs.Verdicts.{first_refusal}
+use Rattle.refusals.specs.Verdicts.{first_refusal, Verdict}
 use Rattle.tables.specs.Filling.{query_table_asked, check_query_table}
 use Rattle.tables.proofs.Laws.Filling.{query-table-is, QueryTableTaken, query-table-taken, asked-framed, filled-refused, filled-accepted}
 use Rattle.tables.specs.Tables.{part_size, query_table}
@@ -28,12 +27,12 @@ module _ (s : Settings) (b : List ℕ) (out : List ℤ) where
   checked v w e f = query-table-is s h (length out) v (sym e) ∙ ap (λ (w : Verdict). first_refusal (v ∷ w ∷ [])) (sym f)
 
   -- where the readings were all taken
-  module _ (asked : Accepted ≡ query_table_asked s h (length out)) (read : Accepted ≡ check_readings 0 h.readings) where
+  module _ (asked : (Ok tt) ≡ query_table_asked s h (length out)) (read : (Ok tt) ≡ check_readings 0 h.readings) where
     abbrev X : List ℤ
     X = units_taken h.readings
 
-    accepted : check_query_table s h (length out) ≡ Accepted
-    accepted = checked Accepted Accepted asked read
+    accepted : check_query_table s h (length out) ≡ Ok tt
+    accepted = checked (Ok tt) (Ok tt) asked read
 
     taken : QueryTableTaken s h (length out)
     taken = query-table-taken s h (length out) (fvecs-sound b) accepted
@@ -59,19 +58,19 @@ module _ (s : Settings) (b : List ℕ) (out : List ℤ) where
           )
 
 pub word_at-n-requires : goal.word_at-n-requires
-word_at-n-requires c = (asked-framed c.args.s c.args.query.now (length c.args.entries.now) (sym c.in-Accepted.ensures)).there
+word_at-n-requires c = (asked-framed c.args.s c.args.query.now (length c.args.entries.now) (sym c.in_ok-check_fvecs_query.ensures)).there
 
 pub take_readings-requires : goal.take_readings-requires
 take_readings-requires c =
-    let f = asked-framed c.args.s c.args.query.now (length c.args.entries.now) (sym c.in-Accepted.ensures) in
+    let f = asked-framed c.args.s c.args.query.now (length c.args.entries.now) (sym c.in_ok-check_fvecs_query.ensures) in
     let e = c.word_at-n.ensures in
     (e, omega (arith, e, f.complete), omega (arith, e, f.whole.times, f.whole.few))
 
 pub slice_bounds-fill_units-end : goal.slice_bounds-fill_units-end
-slice_bounds-fill_units-end c = enough c.args.s c.args.query.now c.args.entries.now c.in-Accepted.ensures c.in-Accepted-take_readings.ensures.answer c.word_at-n.result c.word_at-n.ensures c.take_readings.new.x _ c.in-Accepted-take_readings.ensures.room
+slice_bounds-fill_units-end c = enough c.args.s c.args.query.now c.args.entries.now c.in_ok-check_fvecs_query.ensures c.in_ok-take_readings.ensures.answer c.word_at-n.result c.word_at-n.ensures c.take_readings.new.x _ c.in_ok-take_readings.ensures.room
 
 pub base-requires : goal.base-requires
-base-requires c = (taken c.args.s c.args.query.now c.args.entries.now c.in-Accepted.ensures c.in-Accepted-take_readings.ensures.answer).allowed
+base-requires c = (taken c.args.s c.args.query.now c.args.entries.now c.in_ok-check_fvecs_query.ensures c.in_ok-take_readings.ensures.answer).allowed
 
 pub fill_units-requires : goal.fill_units-requires
 fill_units-requires c =
@@ -80,32 +79,32 @@ fill_units-requires c =
     let f : SFits w64 c.base.result = record { sfits = c.base.type_inv } in
     let q-is : to_z w64 (of_z w64 c.base.result) ≡ c.args.s.q = to_z-of_z f ∙ c.base.ensures in
     subst (λ (z : ℤ). Base z × (nat_abs z ≤ 4) × UnitsTaken x × (part_size (nat_abs z) * (length x / 8) ≤ length out)) (sym q-is)
-    (ready c.args.s c.args.query.now out c.in-Accepted.ensures c.in-Accepted-take_readings.ensures.answer c.word_at-n.result c.word_at-n.ensures c.take_readings.new.x _ c.in-Accepted-take_readings.ensures.room)
+    (ready c.args.s c.args.query.now out c.in_ok-check_fvecs_query.ensures c.in_ok-take_readings.ensures.answer c.word_at-n.result c.word_at-n.ensures c.take_readings.new.x _ c.in_ok-take_readings.ensures.room)
 
-pub returns-in-Refused : goal.returns-in-Refused
-returns-in-Refused c =
+pub returns-in_err-check_fvecs_query : goal.returns-in_err-check_fvecs_query
+returns-in_err-check_fvecs_query c =
     let h = fvecs_hour c.args.query.now in
-    let f = filled-refused c.args.s h c.args.entries.now _ (checked c.args.s c.args.query.now c.args.entries.now _ (check_readings 0 h.readings) c.in-Refused.ensures refl) in
-    record { answer = c.refused.ensures ∙ f.0; room = f.1 }
+    let f = filled-refused c.args.s h c.args.entries.now _ (checked c.args.s c.args.query.now c.args.entries.now _ (check_readings 0 h.readings) c.in_err-check_fvecs_query.ensures refl) in
+    record { answer = (search rules) ∙ f.0; room = f.1 }
 
-pub returns-in-Refused-take_readings : goal.returns-in-Refused-take_readings
-returns-in-Refused-take_readings c =
+pub returns-in_err-take_readings : goal.returns-in_err-take_readings
+returns-in_err-take_readings c =
     let h = fvecs_hour c.args.query.now in
-    let f = filled-refused c.args.s h c.args.entries.now _ (checked c.args.s c.args.query.now c.args.entries.now Accepted _ c.in-Accepted.ensures c.in-Refused-take_readings.ensures.answer) in
-    record { answer = c.refused-in-Refused-take_readings.ensures ∙ f.0; room = f.1 }
+    let f = filled-refused c.args.s h c.args.entries.now _ (checked c.args.s c.args.query.now c.args.entries.now (Ok tt) _ c.in_ok-check_fvecs_query.ensures c.in_err-take_readings.ensures.answer) in
+    record { answer = (search rules) ∙ f.0; room = f.1 }
 
-pub returns-in-Accepted-take_readings : goal.returns-in-Accepted-take_readings
-returns-in-Accepted-take_readings c =
+pub returns : goal.returns
+returns c =
     let s = c.args.s in
     let b = c.args.query.now in
     let out = c.args.entries.now in
-    let e = c.in-Accepted.ensures in
-    let r = c.in-Accepted-take_readings.ensures.answer in
-    let x-same = x-is s b out e r c.word_at-n.result c.word_at-n.ensures c.take_readings.new.x _ c.in-Accepted-take_readings.ensures.room in
+    let e = c.in_ok-check_fvecs_query.ensures in
+    let r = c.in_ok-take_readings.ensures.answer in
+    let x-same = x-is s b out e r c.word_at-n.result c.word_at-n.ensures c.take_readings.new.x _ c.in_ok-take_readings.ensures.room in
     let fits : SFits w64 c.base.result = record { sfits = c.base.type_inv } in
     let q-is : to_z w64 (of_z w64 c.base.result) ≡ s.q = to_z-of_z fits ∙ c.base.ensures in
     let f = filled-accepted s (fvecs_hour b) out (units_taken (fvecs_hour b).readings) refl (taken s b out e r).whole (accepted s b out e r) in
     record {
-      answer = c.fill_units.ensures.answer ∙ ap₂ (λ (z : ℤ) (x : List ℤ). valued Accepted (pos (part_size (nat_abs z) * (length x / 8)))) q-is x-same ∙ f.0;
-      room = c.fill_units.ensures.room ∙ ap₂ (λ (z : ℤ) (x : List ℤ). written Accepted (query_table (nat_abs z) x) out) q-is x-same ∙ f.1;
+      answer = c.fill_units.ensures.answer ∙ ap₂ (λ (z : ℤ) (x : List ℤ). valued (Ok tt) (pos (part_size (nat_abs z) * (length x / 8)))) q-is x-same ∙ f.0;
+      room = c.fill_units.ensures.room ∙ ap₂ (λ (z : ℤ) (x : List ℤ). written (Ok tt) (query_table (nat_abs z) x) out) q-is x-same ∙ f.1;
     }

@@ -33,8 +33,7 @@ pub loop-b-preserved : goal.loop-b-preserved
 loop-b-preserved c =
     let a = c.args in
     let b = c.loop-b.b in
-    let point = point_by (to_z w16 (of_z w16 a.q)) a.choices.now a.lows.now a.highs.now in
+    let point = point_by (to_z w16 (of_z w16 a.q)) a.halves.now.choices a.halves.now.lows a.halves.now.highs in
     let n-is : a.n ≡ nat_abs (to_z w16 (of_z w16 a.q)) ^ 7 = simp (to_z-of_z, c.ranges.q) c.requires.1 in
-    let part-is = subst (λ (m : ℕ). Dots m point (take (8 * b + 8 - 8 * b) (drop (8 * b) a.x.now)) c.fill_slice.new.part) (sym n-is) c.fill_slice.ensures in
-    let m = more a.size a.first a.n a.k b point a.x.now a.entries.now c.loop-b.entries c.fill_slice.new.part c.requires.3 c.loop-b-test.true c.requires.6 c.loop-b.invariant.1 part-is in
-    (omega (arith, c.loop-b-test.true), m)
+    let part-is = subst (λ (m : ℕ). Dots m point (take (8 * b + 8 - 8 * b) (drop (8 * b) a.x.now)) c.fill_part.new.part) (sym n-is) c.fill_part.ensures in
+    more a.size a.first a.n a.k b point a.x.now a.entries.now c.loop-b.entries c.fill_part.new.part c.requires.3 c.loop-b-test.true c.requires.6 c.loop-b.invariant part-is

@@ -1,8 +1,0 @@
--- `no_readings` holds +0.0 throughout, by computation.
-use mathlib.Core.Path.{refl}
-use lib.Ieee.{of_bits, round}
-use Rattle.reports.proofs.no_readings.Goals as goal
-
-pub returns : goal.returns
-unfolding of_bits round
-returns c = refl
