@@ -11,6 +11,10 @@ pub record LayerPut (t : ℕ) (ds : List ℕ) (c c' : List (List ℕ)) : Type 0 
   pub put : column 0 t c' ≡ ds
   pub others : (u : ℕ) → u ≢ t → column 0 u c' ≡ column 0 u c
 
+-- nothing is laid yet
+abbrev pub Blank : List (List ℕ) → Type 0
+Blank c = c ≡ replicate 8 (replicate 8 0)
+
 -- block t of a row of blocks
 abbrev pub block_at : ℕ → List ℕ → ℕ → List ℕ
 block_at m f t = take (block_size m) (drop (block_size m * t) f)

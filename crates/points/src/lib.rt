@@ -9,7 +9,7 @@ ghost use Rattle.layers.specs.E8.{decode8};
 ghost use Rattle.layers.specs.Table.{TableFor, layer_table};
 ghost use Rattle.refusals.specs.Limits.{m_most};
 ghost use Rattle.records.specs.Eight.Codes.{Digital, AreCodes, block_size, whole_point};
-ghost use Rattle.points.specs.Lanes.{LayerPut, Gathered, AllGathered, Taken, BlockPoints, Summable, SummableRows, SummedRows, whole_coordinate, Foldable, FoldableRow, FoldableRows, FoldedRow, FoldedRows};
+ghost use Rattle.points.specs.Lanes.{LayerPut, Blank, Gathered, AllGathered, Taken, BlockPoints, Summable, SummableRows, SummedRows, whole_coordinate, Foldable, FoldableRow, FoldableRows, FoldedRow, FoldedRows};
 
 use layers::lookup;
 use records::codes;
@@ -24,16 +24,25 @@ fn put_layer(body: &[u8], a: usize, t: usize, c: &mut [[u8; 8]; 8])
     }
 }
 
+// The layer i of n blocks side by side in the lent array. Lent and not inlined, so that the bytes are stored one by one; a compiler that sees them on their way into the layers' pass puts them together in registers, which is slower.
+#[inline(never)]
+fn gather(body: &[u8], m: usize, i: usize, n: usize, c: &mut [[u8; 8]; 8])
+    requires { (m ≤ m_most) × (i < m) × (n ≤ 8) × (block_size m * n ≤ length body.now) × Blank c.old }
+    ensures { Gathered m n i body.now c.new }
+{
+    let size = codes::block_size(m);
+    for b in 0..n {
+        put_layer(body, size * b + (8 * i + 1), b, c);
+    }
+}
+
 // The layer i of n blocks side by side, with zeros past the last.
 fn gathered(body: &[u8], m: usize, i: usize, n: usize) -> [[u8; 8]; 8]
     requires { (m ≤ m_most) × (i < m) × (n ≤ 8) × (block_size m * n ≤ length body.now) }
     ensures { Gathered m n i body.now result }
 {
-    let size = codes::block_size(m);
     let mut c = [[0; 8]; 8];
-    for b in 0..n {
-        put_layer(body, size * b + (8 * i + 1), b, &mut c);
-    }
+    gather(body, m, i, n, &mut c);
     c
 }
 

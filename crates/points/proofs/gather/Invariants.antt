@@ -1,8 +1,8 @@
--- `gathered` puts block after block: after b turns the first b columns hold the layer of their blocks.
+-- `gather` puts block after block: after b turns the first b columns hold the layer of their blocks.
 use mathlib.Core.List.{List}
 use Prim.Native.Nat.{ℕ}
 use Rattle.points.specs.Laws.Lanes.{Laid, layer_at}
-use Rattle.points.proofs.gathered.Given as goal
+use Rattle.points.proofs.gather.Given as goal
 
 -- the layer i of block b
 abbrev pub layer : List ℕ → ℕ → ℕ → ℕ → List ℕ

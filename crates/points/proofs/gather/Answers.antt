@@ -1,12 +1,15 @@
--- `gathered` puts block after block: after b turns the first b columns hold the layer of their blocks.
-use mathlib.Core.Path.{◌≡◌, ap, subst}
+-- `gather` puts block after block: after b turns the first b columns hold the layer of their blocks.
+use mathlib.Core.Path.{◌≡◌, sym, ap, subst}
 use Prim.Native.Nat.{ℕ, ◌+◌, ◌*◌}
 use native.Mathlib.Omega.{arith}
 use Rattle.records.specs.Eight.Codes.{block_size}
-use Rattle.points.specs.Laws.Lanes.{Laid, laid-gathered}
+use Rattle.points.specs.Laws.Lanes.{Laid, laid_none, laid-gathered}
 use Rattle.records.specs.Laws.Parts.{part-ends}
-use Rattle.points.proofs.gathered.Goals as goal
-use Rattle.points.proofs.gathered.Invariants.{layer}
+use Rattle.points.proofs.gather.Goals as goal
+use Rattle.points.proofs.gather.Invariants.{layer}
+
+pub loop-b-init : goal.loop-b-init
+loop-b-init c = subst (Laid (layer c.args.body.now c.args.m c.args.i) 0) (sym c.requires.4) (laid_none _)
 
 pub put_layer-requires : goal.put_layer-requires
 put_layer-requires c =
