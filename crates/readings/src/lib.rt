@@ -20,13 +20,11 @@ pub enum Fault {
 pub fn measure_units(x: i32) -> Result<i32, Fault>
     ensures { result ≡ measure_units x }
 {
-    if x > 16777216 {
-        return Err(Fault::OutOfRange);
+    if integers::within(x, -16777216, 16777216) {
+        Ok(x)
+    } else {
+        Err(Fault::OutOfRange)
     }
-    if x < -16777216 {
-        return Err(Fault::OutOfRange);
-    }
-    Ok(x)
 }
 
 // A binary32 pattern: a NaN is missing, an infinity is out of range, and any other is judged by its nearest whole units.
