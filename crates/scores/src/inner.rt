@@ -25,12 +25,16 @@ pub(crate) fn point_dot(x: &[i32], e: &[i16; 8]) -> i64
     t
 }
 
-// The doubled point in column b of eight side by side.
-pub(crate) fn column(e: &[[i16; 8]; 8], b: usize) -> [i16; 8]
-    requires { b < 8 }
-    ensures { result ≡ column (pos 0) b e.now }
+// Eight readings and the doubled point in column b of eight side by side, read where it stands: the sum of X_j·e_j.
+pub(crate) fn column_dot(x: &[i32], e: &[[i16; 8]; 8], b: usize) -> i64
+    requires { Sized 8 (2 ^ 24) x.now × Sized 8 (2 ^ 14 - 1) (column (pos 0) b e.now) × (b < 8) }
+    ensures { result ≡ dot x.now (column (pos 0) b e.now) }
 {
-    std::array::from_fn(|j| e[j][b])
+    let mut t = 0;
+    for j in 0..8 {
+        t += i64::from(x[j]) * i64::from(e[j][b]);
+    }
+    t
 }
 
 // Two doubled points: the sum of e_i·f_i, which 32 bits hold.

@@ -1,6 +1,7 @@
 // The query score: whole readings against one code record, in halves of 1/1024 squared (01, Scores).
-ghost use Rattle.std.specs.Prelude.{◌≡◌, cond, ◌++◌, map, ◌*◌, ◌/◌, ◌^◌, ◌≤◌, eqb, nat_abs, ◌*ℤ◌, length, drop};
+ghost use Rattle.std.specs.Prelude.{◌≡◌, cond, ◌++◌, map, ◌*◌, ◌/◌, ◌^◌, ◌<◌, ◌≤◌, eqb, pos, nat_abs, ◌*ℤ◌, length, drop};
 ghost use Rattle.integers.specs.Vectors.{dot, Sized};
+ghost use Rattle.columns.specs.Columns.{column};
 ghost use Rattle.layers.specs.Digits.{cut};
 ghost use Rattle.layers.specs.Table.{TableFor, layer_table};
 ghost use Rattle.layers.specs.Code.{code8, size_of, code_of};
@@ -22,6 +23,14 @@ fn block_query(steps: &[i32], x: &[i32], b: &[u8], e: &[i16; 8]) -> i64
     ensures { result ≡ step_of steps.now b.now *ℤ dot x.now e.now }
 {
     codes::step_of(steps, b) * inner::point_dot(x, e)
+}
+
+// The same of a block whose point is the column t of eight side by side.
+fn column_query(steps: &[i32], x: &[i32], b: &[u8], e: &[[i16; 8]; 8], t: usize) -> i64
+    requires { Sized 8 (2 ^ 24) x.now × (t < 8) × Scored steps.now b.now (column (pos 0) t e.now) }
+    ensures { result ≡ step_of steps.now b.now *ℤ dot x.now (column (pos 0) t e.now) }
+{
+    codes::step_of(steps, b) * inner::column_dot(x, e, t)
 }
 
 // The sum over k blocks of readings and as many coded ones, whose points are made in the first k of the lent rows: for q = 2, from the table t.
@@ -62,8 +71,7 @@ fn ruled_total(steps: &[i32], x: &[i32], body: &[u8], q: i64, m: usize, k: usize
             e = points::eight_points(&body[n * i..], (k - i).min(8), q as i16, m);
         }
         let b = inner::part(body, n, i);
-        let p = inner::column(&e, i % 8);
-        z += block_query(steps, inner::part(x, 8, i), b, &p);
+        z += column_query(steps, inner::part(x, 8, i), b, &e, i % 8);
     }
     z
 }
@@ -90,16 +98,16 @@ pub fn query_total(
     }
 }
 
-// The same, with a table and rows of its own where they are used.
+// The same, with a table, where there is one, and rows of its own.
 fn query_body(steps: &[i32], x: &[i32], body: &[u8], q: i64, m: usize, k: usize) -> i64
     requires { Coder q m steps.now × Sized (8 * k) (2 ^ 24) x.now × AreBlocks (length steps.now) (code8 (nat_abs q) m) k body.now × (k ≤ 64) }
     ensures { result ≡ total (block_query (code8 (nat_abs q) m) steps.now) (cut 8 k x.now) (cut (block_bytes 8 m) k body.now) }
 {
+    let total = |t: &[i8]| query_total(t, steps, x, body, q, m, k, &mut [[0; 8]; 64]);
     if q == 2 {
-        let t = table::layer_points();
-        table_total(&t, steps, x, body, q, m, k, &mut [[0; 8]; 64])
+        total(&table::layer_points())
     } else {
-        ruled_total(steps, x, body, q, m, k)
+        total(&[])
     }
 }
 

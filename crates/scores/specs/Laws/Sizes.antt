@@ -1,8 +1,10 @@
 -- How large scores are, for all q, M and K: each coordinate of a whole point is at most 2 W, and nothing else is used.
 use Rattle.std.specs.Prelude.{List, ℕ, ◌*◌, ◌-◌, ◌^◌, ◌≤◌, ℤ, pos, negsuc, nat_abs, ◌*ℤ◌, length, get_or, drop}
 use Rattle.std.proofs.Common.{mul-le-mul, arith, take_all}
+use mir.Syntax.{w64}
+use mir.Val.{SFits}
 use Rattle.integers.specs.Floor.{floor_div}
-use Rattle.integers.specs.Laws.Sizes.{abs-mul-le}
+use Rattle.integers.specs.Laws.Sizes.{abs-mul-le, fits-abs}
 use Rattle.integers.specs.Laws.Sums.{dot-bound}
 use Rattle.integers.specs.Vectors.{dot, Sized}
 use Rattle.lattice.specs.Doubled.{E8}
@@ -34,6 +36,10 @@ inner-narrow e f h k = quarter-small (2 ^ 29) (dot e f) (omega (arith, dot-sized
 -- a step that a block names
 pub scored-step : (steps : List ℤ) (b : List ℕ) (e : List ℤ) → Scored steps b e → nat_abs (step_of steps b) ≤ step_most
 scored-step steps b e h = (h.listed.each (get_or b 0 0) h.first).most
+
+-- times an inner product of readings with the block's point
+pub scored-fits : (steps : List ℤ) (b : List ℕ) (X e : List ℤ) → Sized 8 (2 ^ 24) X → Scored steps b e → SFits w64 (step_of steps b *ℤ dot X e)
+scored-fits steps b X e h k = fits-abs _ (omega (arith, abs-mul-le (step_of steps b) (dot X e) (scored-step steps b e k) (dot-sized 8 (2 ^ 24) (2 ^ 14 - 1) X e h k.narrow)))
 
 module _ (q : ℤ) (m : ℕ) where
   -- no coordinate of a whole point is larger, not doubled

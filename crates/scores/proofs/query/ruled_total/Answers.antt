@@ -1,9 +1,9 @@
 -- `ruled_total` has the points of eight blocks made at the first of them, and adds block after block: after i turns z is the total of the first i, which stays small.
 use mathlib.Core.Path.{◌≡◌, refl, sym, ◌∙◌, ap, ap₂, subst}
 use mathlib.Core.List.{List}
-use Prim.Native.Nat.{ℕ, ◌+◌, ◌*◌, ◌-◌, ◌^◌, ◌<◌, ◌≤◌}
+use Prim.Native.Nat.{ℕ, ◌+◌, ◌*◌, ◌-◌, ◌%◌, ◌^◌, ◌<◌, ◌≤◌}
 use native.Mathlib.Omega.{arith}
-use lib.IntN.{ℤ, nat_abs, ◌+ℤ◌, ◌*ℤ◌}
+use lib.IntN.{ℤ, pos, nat_abs, ◌+ℤ◌, ◌*ℤ◌}
 use lib.ListN.{length, take, drop}
 use mir.Syntax.{w16, w64}
 use mir.Val.{SFits, to_z}
@@ -12,6 +12,7 @@ use Rattle.integers.specs.Laws.Loops.{rest-whole}
 use Rattle.integers.specs.Laws.Sizes.{fits-mag, fits-abs}
 use Rattle.integers.specs.Laws.Sums.{sized-part}
 use Rattle.integers.specs.Vectors.{dot, Sized}
+use Rattle.columns.specs.Columns.{column}
 use Rattle.layers.specs.Digits.{cut}
 use Rattle.records.specs.Eight.Codes.{AreCodes, Coder, IsBlock, block_size, step_of, whole_point}
 use Rattle.points.specs.Lanes.{BlockPoints}
@@ -96,13 +97,13 @@ module _ (c : After-part) where
   sum-small : (j : ℕ) → j ≤ k → nat_abs (sum j) ≤ j * 2 ^ 51
   sum-small j h = parts-small f 8 (block_size m) X body (2 ^ 51) j (λ a r. part_small a (omega arith))
 
-  -- its group's points stand, newly made or from the turns before, and its own was taken out
+  -- its group's points stand, newly made or from the turns before
   module _ (stands : Standing q m k body i c.if-i-eq0.e) where
     abbrev own : List ℤ
-    own = c.column-p.result
+    own = column (pos 0) (i % 8) c.if-i-eq0.e
 
     own_is : own ≡ whole_point q m (block i)
-    own_is = c.column-p.ensures ∙ stands i (omega arith) c.loop-i-test.true refl
+    own_is = stands i (omega arith) c.loop-i-test.true refl
 
     scored : Scored steps lent own
     scored = subst (λ (b : List ℕ). Scored steps b own) (sym block-is)
@@ -141,18 +142,18 @@ eight_points-e-requires c =
     let group : AreCodes q m c.min.result (drop (block_size m * i) body) = codes-from q m k body (blocks-codes (length steps) q m k body c.requires.2) i c.min.result (omega (arith, c.min.ensures, c.loop-i-test.true)) in
     simp (to_z-of_z, c.ranges.q, narrow) (coder-digital c.args.q m steps c.requires.0, subst (AreCodes q m c.min.result) (sym (rest-is c.block_size-n.result m i body c.block_size-n.ensures)) group, omega (arith, c.min.ensures))
 
-pub block_query-z-requires : goal.block_query-z-requires
-block_query-z-requires c = let p = goal.at.block_query-z-requires c in let b = p.After-part in (taken-sized b, scored b (stands p.Joined-i-eq0))
+pub column_query-z-requires : goal.column_query-z-requires
+column_query-z-requires c = let p = goal.at.column_query-z-requires c in let b = p.After-part in (taken-sized b, omega arith, scored b (stands p.Joined-i-eq0))
 
 pub overflow_add-z : goal.overflow_add-z
 overflow_add-z c = let p = goal.at.overflow_add-z c in let b = p.After-part in
-    let y-fits : SFits w64 c.block_query-z.result = record { sfits = c.block_query-z.type_inv } in
-    simp (to_z-of_z, y-fits, sum_is b) (more-fits b (stands p.Joined-i-eq0) _ c.block_query-z.ensures)
+    let y-fits : SFits w64 c.column_query-z.result = record { sfits = c.column_query-z.type_inv } in
+    simp (to_z-of_z, y-fits, sum_is b) (more-fits b (stands p.Joined-i-eq0) _ c.column_query-z.ensures)
 
 pub loop-i-preserved : goal.loop-i-preserved
 loop-i-preserved c = let p = goal.at.loop-i-preserved c in let b = p.After-part in let s = stands p.Joined-i-eq0 in
-    let y-fits : SFits w64 c.block_query-z.result = record { sfits = c.block_query-z.type_inv } in
-    let fits : SFits w64 (sum b (i b) +ℤ c.block_query-z.result) = more-fits b s _ c.block_query-z.ensures in record {
-      sum = simp (to_z-of_z, c.ranges.q, y-fits, sum_is b, fits) (more-is b s _ c.block_query-z.ensures);
+    let y-fits : SFits w64 c.column_query-z.result = record { sfits = c.column_query-z.type_inv } in
+    let fits : SFits w64 (sum b (i b) +ℤ c.column_query-z.result) = more-fits b s _ c.column_query-z.ensures in record {
+      sum = simp (to_z-of_z, c.ranges.q, y-fits, sum_is b, fits) (more-is b s _ c.column_query-z.ensures);
       standing = λ n. subst (λ (w : ℕ). Standing w (m b) (k b) (body b) (i b + 1) c.if-i-eq0.e) (ap nat_abs (sym (to_z-of_z c.ranges.q))) (standing-next (q b) (m b) (k b) (body b) (i b) c.if-i-eq0.e s n);
     }
