@@ -46,6 +46,17 @@ fn fill_slices(
     }
 }
 
+// Halves that nothing is found of yet. A function of its own: what a compiler makes them of then lies where later arrays do, and takes no stack beside them.
+fn no_halves() -> Halves
+    ensures { (length result.choices ≡ 16384) × (length result.lows ≡ 256) × (length result.highs ≡ 256) }
+{
+    Halves {
+        choices: [0; 16384],
+        lows: [[0; 3]; 256],
+        highs: [[0; 5]; 256],
+    }
+}
+
 // The parts of k blocks at the front of the lent table, slice after slice, whose choices and rests are found once for all blocks. The entries past the last part stay as found.
 pub fn fill_blocks(x: &[i32], q: i64, k: usize, entries: &mut [i32])
     requires { Base q × (nat_abs q ≤ query_most) × Sized (8 * k) (2 ^ 24) x.now × (part_size (nat_abs q) * k ≤ length entries.old) × (k ≤ 64) }
@@ -55,11 +66,7 @@ pub fn fill_blocks(x: &[i32], q: i64, k: usize, entries: &mut [i32])
     let n = size / q as usize;
     let base = q as i16;
     let values = q as u8;
-    let mut halves = Halves {
-        choices: [0; 16384],
-        lows: [[0; 3]; 256],
-        highs: [[0; 5]; 256],
-    };
+    let mut halves = no_halves();
     for last in 0..values {
         halves.fill(base, last);
         fill_slices(base, &halves, x, size, k, n * last as usize, n, entries);
