@@ -31,7 +31,7 @@ use Rattle.scores.specs.Eight.Scores.{query_total, query_score}
 use Rattle.stores.specs.Laws.Asked.{code-accepted, pieces_are, some-records, store-accepted, empty-store}
 use Rattle.stores.specs.Laws.Best.{IsBest, best-is}
 use Rattle.stores.specs.Laws.Search.{search-refused, search-last, SearchTaken, search-taken}
-use Rattle.stores.specs.Stores.{StoreTaken, pieces, record_at, best_of, best_in, check_best, found, best_hour}
+use Rattle.stores.specs.Stores.{StoreTaken, pieces, record_at, best_of, best_in, check_best, HourAnswer, found, best_hour}
 use Rattle.stores.specs.declared.Best.{Best}
 
 -- ---- an accepted search
@@ -66,9 +66,12 @@ module _ (c : Settings) (steps : List ℤ) (h : Hour) (b : List ℕ) (sound : So
   taken : SearchTaken c steps h b
   taken = search-taken c steps h b sound ok
 
-  answer-is : answer ≡ best_of scores
+  answer-is : best_hour c steps h b ≡ found (Ok tt) (best_of scores)
   unfolding best_hour best_in
-  answer-is = ap (λ (v : Verdict). result_unwrap_or (found v (best_of (map f (pieces size b)))) (record { hour = 0; score = pos 0 })) ok ∙ ap (λ (l : List (List ℕ)). best_of (map f l)) (pieces_are (length steps) q m (blocks_of h) b taken.store)
+  answer-is = ap (λ (v : Verdict). found v (best_of (map f (pieces size b)))) ok ∙ ap (λ (l : List (List ℕ)). found (Ok tt) (best_of (map f l))) (pieces_are (length steps) q m (blocks_of h) b taken.store)
+
+  best-is-answer : answer ≡ best_of scores
+  best-is-answer = ap (λ (a : HourAnswer). result_unwrap_or a (record { hour = 0; score = pos 0 })) answer-is
 
   many : length scores ≡ count
   many = length-map (cut size count b) f ∙ cut-long size count b
@@ -91,19 +94,19 @@ module _ (c : Settings) (steps : List ℤ) (h : Hour) (b : List ℕ) (sound : So
 
   -- the hour is one of them
   pub search-within : answer.hour < count
-  search-within = let e : answer.hour ≡ (best_of scores).hour = ap (λ (a : Best). a.hour) answer-is in omega (arith, best.within, many)
+  search-within = let e : answer.hour ≡ (best_of scores).hour = ap (λ (a : Best). a.hour) best-is-answer in omega (arith, best.within, many)
 
   -- its score is the query score of that record, taken by itself
   pub search-score : alone answer.hour ≡ valued (Ok tt) answer.score
-  search-score = alone-is answer.hour search-within ∙ ap (λ (a : Best). valued (Ok tt) («at» scores a.hour)) answer-is ∙ ap (valued (Ok tt)) (best.own ∙ ap (λ (a : Best). a.score) (sym answer-is))
+  search-score = alone-is answer.hour search-within ∙ ap (λ (a : Best). valued (Ok tt) («at» scores a.hour)) best-is-answer ∙ ap (valued (Ok tt)) (best.own ∙ ap (λ (a : Best). a.score) (sym best-is-answer))
 
   -- no stored record scores more
   pub search-greatest : (i : ℕ) → i < count → result_unwrap_or (alone i) (pos 0) ≤ℤ answer.score
-  search-greatest i k = rw (alone-is i k, answer-is) (best.greatest i (omega (arith, many)))
+  search-greatest i k = rw (alone-is i k, best-is-answer) (best.greatest i (omega (arith, many)))
 
   -- and each earlier one less
   pub search-earliest : (i : ℕ) → i < answer.hour → result_unwrap_or (alone i) (pos 0) <ℤ answer.score
-  search-earliest i k = rw (alone-is i (omega (arith, search-within)), answer-is) (best.earliest i (subst (λ (a : Best). i < a.hour) answer-is k))
+  search-earliest i k = rw (alone-is i (omega (arith, search-within)), best-is-answer) (best.earliest i (subst (λ (a : Best). i < a.hour) best-is-answer k))
 
 -- ---- what is refused
 
