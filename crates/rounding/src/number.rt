@@ -5,6 +5,7 @@ ghost use Rattle.std.proofs.Common.{rules, arith};
 ghost use Rattle.lattice.specs.Doubled.{par};
 ghost use Rattle.rounding.specs.Rounding.{Room};
 
+use lattice::member;
 use std::ops::{Add, Div, Mul, Rem, Sub};
 
 // A key or a place: a count, with exact arithmetic where the answer fits.
@@ -165,7 +166,7 @@ impl Number for i64 {
     }
 
     fn is_odd(self) -> bool {
-        self % 2 != 0
+        member::odd(self)
     }
 
     fn key(self) -> usize {
