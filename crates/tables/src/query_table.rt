@@ -46,7 +46,7 @@ fn fill_slices(
     }
 }
 
-// Halves that nothing is found of yet. A function of its own: what a compiler makes them of then lies where later arrays do, and takes no stack beside them.
+// The halves before anything is found. A function of its own: the parts that a compiler makes them of then lie where later arrays do, and take no stack beside them.
 fn no_halves() -> Halves
     ensures { (length result.choices ≡ 16384) × (length result.lows ≡ 256) × (length result.highs ≡ 256) }
 {

@@ -37,7 +37,7 @@ inner-narrow e f h k = quarter-small (2 ^ 29) (dot e f) (omega (arith, dot-sized
 pub scored-step : (steps : List ℤ) (b : List ℕ) (e : List ℤ) → Scored steps b e → nat_abs (step_of steps b) ≤ step_most
 scored-step steps b e h = (h.listed.each (get_or b 0 0) h.first).most
 
--- times an inner product of readings with the block's point
+-- that step times an inner product of readings with the block's point fits 64 bits
 pub scored-fits : (steps : List ℤ) (b : List ℕ) (X e : List ℤ) → Sized 8 (2 ^ 24) X → Scored steps b e → SFits w64 (step_of steps b *ℤ dot X e)
 scored-fits steps b X e h k = fits-abs _ (omega (arith, abs-mul-le (step_of steps b) (dot X e) (scored-step steps b e k) (dot-sized 8 (2 ^ 24) (2 ^ 14 - 1) X e h k.narrow)))
 
